@@ -1,0 +1,21 @@
+-- What writers cite of stores into a list: one run of stores behind another is a single run, and a part that was lent and has come back is a run of stores into the whole.
+use Prim.Native.Nat.{ℕ, suc, _+_, _≤_}
+use mathlib.Core.Path.{_≡_, sym, ap, _∙_}
+use mathlib.Core.List.{List, [], _∷_, _++_, append-assoc}
+use native.Mathlib.Nat.{add-zero}
+use native.Mathlib.Omega.{arith}
+use lib.ListN.{length, take, drop, set}
+use lib.Seq.{sets, sets-eq, drop-drop}
+
+pub sets-append : (l : List ℕ) (i : ℕ) (vs ws : List ℕ) → sets (sets l i vs) (i + length vs) ws ≡ sets l i (vs ++ ws)
+sets-append l i [] ws = rw (add-zero i)
+sets-append l i (v ∷ vs) ws =
+    let e : i + suc (length vs) ≡ suc i + length vs = omega arith in
+    rw e (sets-append (set l i v) (suc i) vs ws)
+
+pub part-sets : (l part : List ℕ) (at size : ℕ) → length part ≡ size → at + size ≤ length l
+    → take at l ++ (part ++ drop size (drop at l)) ≡ sets l at part
+part-sets l part at size e h =
+    ap (λ (t : List ℕ). take at l ++ (part ++ t)) (drop-drop size at l ∙ ap (λ (k : ℕ). drop (at + k) l) (sym e))
+    ∙ sym (append-assoc (take at l) part (drop (at + length part) l))
+    ∙ sym (sets-eq part l at (omega (arith, e)))
