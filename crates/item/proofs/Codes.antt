@@ -15,11 +15,11 @@ abbrev pub every : (Code → Bool) → List Code → Bool
 every p [] = true
 every p (c ∷ cs) = p c && every p cs
 
-and-left : (a b : Bool) → T (a && b) → T a
+pub and-left : (a b : Bool) → T (a && b) → T a
 and-left true b t = tt
 and-left false b t = t
 
-and-right : (a b : Bool) → T (a && b) → T b
+pub and-right : (a b : Bool) → T (a && b) → T b
 and-right true b t = t
 and-right false b t = absurd t
 

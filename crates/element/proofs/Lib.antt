@@ -1,0 +1,3 @@
+pub mod Nan
+pub mod Sorts
+pub mod Places

@@ -1,0 +1,21 @@
+-- The test is the definition's.
+use borrow.Author.Needs.{needs}
+use mathlib.Core.Path.{sym, ap, _∙_}
+use borrow.Author.Tests.{le-leb, lt-leb}
+use Rattle.element.specs.Element.{byteOf}
+use Rattle.element.proofs.byte_of.Statement.{statement}
+use Rattle.element.proofs.byte_of.Tie as tie
+
+largest-byte-requires : tie.Need-largest-byte-requires
+largest-byte-requires c κs = search needs
+
+returns : tie.Need-returns
+unfolding byteOf
+returns c = rw (← c .before .largest-byte .ensures, le-leb _ _ (c .if1 .taken))
+
+returns-2 : tie.Need-returns-2
+unfolding byteOf
+returns-2 c = rw (← c .before .largest-byte .ensures, lt-leb _ _ (c .if1 .left))
+
+pub byte-of-spec : {M : Type 1} → statement M
+byte-of-spec = tie.close (tie.spec largest-byte-requires returns returns-2)

@@ -1,0 +1,58 @@
+-- The kind decides, as in the definition; a width is never 0.
+use borrow.Author.Needs.{needs}
+use mathlib.Core.Path.{_≡_, sym, _∙_}
+use Rattle.item.specs.Code.{kindOf}
+use Rattle.item.specs.declared.Kind.the-variants as K
+use Rattle.item.proofs.Codes.{plain-width}
+use Rattle.element.specs.Element.{placeOf}
+use Rattle.element.proofs.place_of.Statement.{statement}
+use Rattle.element.proofs.place_of.Tie as tie
+
+kind-of-requires : tie.Need-kind-of-requires
+kind-of-requires c κs = search needs
+
+enum-told : tie.Need-enum-told
+enum-told c = search needs
+
+enum-told-2 : tie.Need-enum-told-2
+enum-told-2 c = search needs
+
+enum-known-width : tie.Need-enum-known-width
+enum-known-width c = search needs
+
+plain-place-requires : tie.Need-plain-place-requires
+plain-place-requires c κs =
+    let w = c .before .width .given .0 .0 in
+    plain-width _ w (sym (c .before .before .before .kind-of .ensures) ∙ c .before .width .given .1) .0
+
+returns : tie.Need-returns
+unfolding placeOf
+returns c =
+    let e : kindOf _ ≡ K.Unknown = sym (c .before .before .kind-of .ensures) ∙ c .enum-told .given .1 in
+    rw e
+
+returns-2 : tie.Need-returns-2
+unfolding placeOf
+returns-2 c =
+    let e : kindOf _ ≡ K.List = sym (c .before .before .kind-of .ensures) ∙ c .enum-told2 .given .1 in
+    rw e
+
+returns-3 : tie.Need-returns-3
+unfolding placeOf
+returns-3 c =
+    let b = c .before .before in
+    let e : kindOf _ ≡ K.Plain (b .width .given .0 .0) = sym (b .before .before .kind-of .ensures) ∙ b .width .given .1 in
+    rw e (c .plain-place .ensures)
+
+pub place-of-spec : {M : Type 1} → statement M
+place-of-spec =
+    tie.close
+    (tie.spec
+    kind-of-requires
+    enum-told
+    enum-told-2
+    enum-known-width
+    plain-place-requires
+    returns
+    returns-2
+    returns-3)
