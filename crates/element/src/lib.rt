@@ -1,5 +1,5 @@
 ghost use mathlib.Core.Path.{_≡_};
-ghost use Prim.Native.Nat.{_+_, _≤_, _<_, _^_};
+ghost use Prim.Native.Nat.{_+_, _≤_, _<_};
 ghost use lib.ListN.{length};
 ghost use lib.Seq.{sets};
 ghost use lib.Ieee.{binary32, binary64, toBits};
@@ -23,7 +23,7 @@ pub enum Element {
 }
 
 // What the elements of a code are.
-pub enum Sort {
+enum Sort {
     Signed,
     Unsigned,
     F4,
@@ -123,7 +123,7 @@ fn f8_bits(x: f64) -> u64
 }
 
 // Where an element lies in its content, and how wide it is; or a refusal's number.
-pub enum Place {
+enum Place {
     At(usize, usize),
     Refused(u32),
 }
@@ -198,7 +198,7 @@ pub fn get(code: u32, content: &[u8], i: usize) -> Got
 }
 
 // The number that an element's bytes are, or a refusal's number.
-pub enum Raw {
+enum Raw {
     Is(u64),
     Refused(u32),
 }

@@ -1,9 +1,8 @@
 -- Laws of the table of codes: a rule that a computed test finds in every entry holds of every code, and a number that no entry has is unknown.
 use Prim.Native.Nat.{ℕ, _<_, _≤_}
-use mathlib.Core.Path.{_≡_, refl, sym, ap, subst, _∙_}
+use mathlib.Core.Path.{_≡_, refl, sym, subst}
 use mathlib.Core.Bool.{Bool, true, false, cond, _&&_}
 use mathlib.Core.List.{List, [], _∷_}
-use native.Mathlib.Omega.{arith}
 use lib.Dec.{T, eqb, ltb, leb, ltb→lt, leb→le}
 use borrow.Author.Tests.{eqb-true, ne-eqb}
 use Rattle.item.specs.Code.{Code, coded, codes, found, kindOf}

@@ -1,6 +1,6 @@
 -- The fewest length bytes, by the thresholds 256 and 65,536 (and 2 to the power 24): they hold the length, and no fewer do.
 use Prim.Native.Nat.{ℕ, zero, suc, _<_, _≤_, _^_}
-use mathlib.Core.Path.{_≡_, refl, subst, sym}
+use mathlib.Core.Path.{_≡_, refl, subst}
 use mathlib.Core.Bool.{Bool, true, false, cond}
 use native.Mathlib.Nat.{lt-of-lt-of-le, pow-le-pow-right, zero-lt-suc, mod-eq-of-lt}
 use native.Mathlib.Omega.{arith}
@@ -8,9 +8,9 @@ use lib.Dec.{ltb}
 use lib.ListN.{length}
 use mathlib.Core.List.{List}
 use borrow.Author.Tests.{lt-ltb, ltb-true, ltb-false}
-use Rattle.wire.specs.Number.{numberOf, bytesOf}
+use Rattle.wire.specs.Number.{bytesOf}
 use Rattle.wire.proofs.Numbers.{number-lt, number-bytes, length-bytes, bytes-at-most}
-use Rattle.item.specs.Item.{Form, good, lean, fewest, Lengths}
+use Rattle.item.specs.Item.{Form, lean, fewest, Lengths}
 
 -- what the thresholds make of a length
 pub record Counted (n k : ℕ) : Type 0 where

@@ -6,7 +6,7 @@ use mathlib.Core.Logic.{_↔_}
 use native.Mathlib.Nat.{le-trans}
 use native.Mathlib.Omega.{arith}
 use lib.ListN.{length}
-use Rattle.item.specs.Item.{Tree, empty, one, good, lean, fewest, meaning, Says, Good, Lean, meaningOf, leanOf}
+use Rattle.item.specs.Item.{Tree, empty, one, good, lean, fewest, meaning, Says, Lean, meaningOf, leanOf}
 use Rattle.item.proofs.Reading.{tree-once}
 use Rattle.item.proofs.Fewest.{counted, fewest-least}
 use Rattle.item.proofs.Lean.{good-item, lean-item, lean-short, lean-meaning, meaning-lean, lean-own}

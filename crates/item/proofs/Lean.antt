@@ -1,17 +1,17 @@
 -- The lean form of a spelled item spells its meaning, and is no longer than any spelling; a lean spelling is the lean form. Each by induction on the tree.
-use Prim.Native.Nat.{ℕ, suc, _+_, _≤_}
-use mathlib.Core.Path.{_≡_, refl, sym, ap, ap₂, subst, _∙_}
+use Prim.Native.Nat.{ℕ, suc, _≤_}
+use mathlib.Core.Path.{_≡_, refl, sym, ap, ap₂, _∙_}
 use mathlib.Core.Bool.{Bool, true, false, cond}
 use mathlib.Core.List.{List, [], _∷_, _++_, map}
 use native.Mathlib.Nat.{le-refl, le-trans}
 use native.Mathlib.Omega.{arith}
 use lib.Dec.{eqb}
 use lib.ListN.{length, length-append, length-map}
-use borrow.Author.Tests.{eqb-true, ne-eqb, eqb-false}
-use Rattle.wire.specs.Number.{numberOf, bytesOf, AtMost}
+use borrow.Author.Tests.{eqb-true, eqb-false}
+use Rattle.wire.specs.Number.{bytesOf, AtMost}
 use Rattle.wire.proofs.Numbers.{length-bytes, bytes-number}
-use Rattle.item.specs.Code.{L, BOOLEAN, A, allowed, largest}
-use Rattle.item.specs.Item.{Item, Items, plain, list, none, more, count, Form, good, lean, fewest, Lengths, limit, Content, header, Spells, SpellsAll, truth, told, meaning, meanings, leanHeader, leanItem, leanItems}
+use Rattle.item.specs.Code.{L, BOOLEAN, A, largest}
+use Rattle.item.specs.Item.{Item, Items, plain, list, none, more, count, good, lean, fewest, Lengths, limit, Content, header, Spells, SpellsAll, truth, told, meaning, meanings, leanHeader, leanItem, leanItems}
 use Rattle.item.proofs.Fewest.{said-small, said-fewest, lean-lengths}
 
 pub at-most-more : (m n : ℕ) (x : List ℕ) → m ≤ n → AtMost m x → AtMost n x

@@ -1,15 +1,14 @@
 -- Unique reading: bytes begin with at most one item at most one way, since the format byte fixes the code and the length bytes, and these fix where the content ends or how many members follow.
 use Prim.Native.Nat.{ℕ, suc, _+_, _*_, _≤_}
 use mathlib.Core.Path.{_≡_, refl, sym, ap, ap₂, _∙_}
-use mathlib.Core.List.{List, [], _∷_, _++_, append-assoc}
+use mathlib.Core.List.{List, [], _++_, append-assoc}
 use native.Mathlib.Nat.{suc-inj}
 use native.Mathlib.Omega.{arith}
 use lib.ListN.{length, take, drop}
 use lib.Seq.{take-at, drop-at}
 use Rattle.wire.specs.Number.{numberOf}
 use Rattle.item.specs.Code.{L, kindOf}
-use Rattle.item.specs.Item.{Item, Items, plain, list, none, more, count, Tree, empty, one, Form, Lengths, Content, header, Spells, SpellsAll, Says}
-use Rattle.item.specs.declared.Kind.{Kind}
+use Rattle.item.specs.Item.{Item, Items, plain, list, none, more, count, Tree, empty, one, Form, Content, header, Spells, SpellsAll, Says}
 use Rattle.item.specs.declared.Kind.the-variants.{List as aList, Plain}
 
 -- two lists that begin with as many elements

@@ -1,11 +1,11 @@
 -- Numbers as bytes, once over the width: what was written is read back, and what was read is written back.
-use Prim.Native.Nat.{ℕ, zero, suc, _+_, _*_, _-_, _/_, _%_, _<_, _≤_, _^_}
+use Prim.Native.Nat.{ℕ, zero, suc, _+_, _*_, _/_, _%_, _<_, _^_}
 use mathlib.Core.Path.{_≡_, refl, sym, ap, ap₂, _∙_}
 use mathlib.Core.List.{List, [], _∷_, _++_}
 use native.Mathlib.Nat.{pow-succ', one-le-pow, zero-lt-suc, mod-one, mod-eq-of-lt, add-mul, add-assoc, mul-assoc, div-div-eq-div-mul, div-one, mul-add-div-right, mul-add-mod-self-right}
 use native.Mathlib.Omega.{arith}
 use lib.Arith.{digits-lt, digits-div, mod-mul}
-use lib.ListN.{length}
+use lib.ListN.{length, take, drop}
 use Rattle.wire.specs.Number.{numberOf, bytesOf, AtMost}
 
 pub power-pos : (w : ℕ) → 0 < 256 ^ w
@@ -20,6 +20,17 @@ pub number-lt : (bs : List ℕ) → AtMost 0xFF bs → numberOf bs < 256 ^ lengt
 unfolding numberOf
 number-lt [] h = omega arith
 number-lt (b ∷ bs) (h, hs) = rw pow-succ' (digits-lt (omega arith) (number-lt bs hs))
+
+-- a part of bytes is bytes
+pub at-most-drop : (m k : ℕ) (bs : List ℕ) → AtMost m bs → AtMost m (drop k bs)
+at-most-drop m zero bs h = h
+at-most-drop m (suc k) [] h = h
+at-most-drop m (suc k) (b ∷ bs) (h, hs) = at-most-drop m k bs hs
+
+pub at-most-take : (m k : ℕ) (bs : List ℕ) → AtMost m bs → AtMost m (take k bs)
+at-most-take m zero bs h = tt
+at-most-take m (suc k) [] h = tt
+at-most-take m (suc k) (b ∷ bs) (h, hs) = (h, at-most-take m k bs hs)
 
 pub length-bytes : (w n : ℕ) → length (bytesOf w n) ≡ w
 unfolding bytesOf

@@ -1,11 +1,11 @@
--- What writers cite of stores into a list: one run of stores behind another is a single run, and a part that was lent and has come back is a run of stores into the whole.
+-- What writers cite of stores into a list: one run of stores behind another is a single run, a part that was lent and has come back is a run of stores into the whole, and what was stored stands where it was stored.
 use Prim.Native.Nat.{ℕ, suc, _+_, _≤_}
 use mathlib.Core.Path.{_≡_, sym, ap, _∙_}
 use mathlib.Core.List.{List, [], _∷_, _++_, append-assoc}
 use native.Mathlib.Nat.{add-zero}
 use native.Mathlib.Omega.{arith}
-use lib.ListN.{length, take, drop, set}
-use lib.Seq.{sets, sets-eq, drop-drop}
+use lib.ListN.{length, take, drop, set, take-append-drop}
+use lib.Seq.{sets, sets-eq, drop-drop, drop-at, take-at, length-take-le}
 
 pub sets-append : (l : List ℕ) (i : ℕ) (vs ws : List ℕ) → sets (sets l i vs) (i + length vs) ws ≡ sets l i (vs ++ ws)
 sets-append l i [] ws = rw (add-zero i)
@@ -19,3 +19,17 @@ part-sets l part at size e h =
     ap (λ (t : List ℕ). take at l ++ (part ++ t)) (drop-drop size at l ∙ ap (λ (k : ℕ). drop (at + k) l) (sym e))
     ∙ sym (append-assoc (take at l) part (drop (at + length part) l))
     ∙ sym (sets-eq part l at (omega (arith, e)))
+
+-- what was stored stands there
+pub sets-there : (l vs : List ℕ) (at size : ℕ) → length vs ≡ size → at + size ≤ length l → take size (drop at (sets l at vs)) ≡ vs
+sets-there l vs at size e h =
+    let s : sets l at vs ≡ take at l ++ (vs ++ drop (at + length vs) l) = sets-eq vs l at (omega (arith, e)) ∙ append-assoc (take at l) vs (drop (at + length vs) l) in
+    rw (s, drop-at (take at l) (vs ++ drop (at + length vs) l) at (length-take-le at l (omega arith))) (take-at vs (drop (at + length vs) l) size e)
+
+-- to store what stands there changes nothing
+pub sets-same : (l vs : List ℕ) (at size : ℕ) → length vs ≡ size → at + size ≤ length l → vs ≡ take size (drop at l) → sets l at vs ≡ l
+sets-same l vs at size e h p =
+    sym (part-sets l vs at size e h)
+    ∙ ap (λ (v : List ℕ). take at l ++ (v ++ drop size (drop at l))) p
+    ∙ ap (λ (v : List ℕ). take at l ++ v) (take-append-drop size (drop at l))
+    ∙ take-append-drop at l

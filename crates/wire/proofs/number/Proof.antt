@@ -1,13 +1,10 @@
 -- At most eight bytes are their own first eight; of more, the first eight are read.
 use borrow.Author.Needs.{needs}
 use Prim.Native.Nat.{ℕ, _<_, _≤_, _^_}
-use mathlib.Core.Path.{_≡_, sym, ap, _∙_}
-use mathlib.Core.List.{List}
 use native.Mathlib.Nat.{lt-of-lt-of-le, pow-le-pow-right, zero-lt-suc}
 use native.Mathlib.Omega.{arith}
 use lib.ListN.{length, take, length-take}
 use lib.Seq.{take-all}
-use Rattle.wire.specs.Number.{numberOf}
 use Rattle.wire.proofs.number.Statement.{statement}
 use Rattle.wire.proofs.number.Tie as tie
 
