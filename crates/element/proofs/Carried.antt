@@ -126,7 +126,7 @@ module _ (code width n : ℕ) (known : kindOf code ≡ K.Plain width) where
   reads-as s e q l r =
       record {
         small = subst (λ (w : ℕ). n < 256 ^ w) (sym (sized code width known .size ∙ ap (sizeAt width) q)) l;
-        reads = rw q r
+        reads = rw q r;
       }
 
   pub stored-read : (e : Element) → Held e → Like code width e n → Read code width e n

@@ -23,80 +23,29 @@ pub fn kind_of(code: u32) -> Kind
     }
 }
 
-// A code's name: the first size bytes of letters, the others 00. An unknown code has none.
-pub struct Name {
-    pub letters: [u8; 7],
-    pub size: usize,
-}
+// A code's name: its letters, 00 up to seven bytes, and how many they are. An unknown code has none.
+pub struct Name(pub [u8; 7], pub usize);
 
 pub fn name_of(code: u32) -> Name
     ensures { λ r. ⌜ r ≡ nameOf code ⌝ }
 {
     match code {
-        0o00 => Name {
-            letters: *b"L\0\0\0\0\0\0",
-            size: 1,
-        },
-        0o10 => Name {
-            letters: *b"B\0\0\0\0\0\0",
-            size: 1,
-        },
-        0o11 => Name {
-            letters: *b"BOOLEAN",
-            size: 7,
-        },
-        0o20 => Name {
-            letters: *b"A\0\0\0\0\0\0",
-            size: 1,
-        },
-        0o21 => Name {
-            letters: *b"J\0\0\0\0\0\0",
-            size: 1,
-        },
-        0o31 => Name {
-            letters: *b"I1\0\0\0\0\0",
-            size: 2,
-        },
-        0o51 => Name {
-            letters: *b"U1\0\0\0\0\0",
-            size: 2,
-        },
-        0o32 => Name {
-            letters: *b"I2\0\0\0\0\0",
-            size: 2,
-        },
-        0o52 => Name {
-            letters: *b"U2\0\0\0\0\0",
-            size: 2,
-        },
-        0o34 => Name {
-            letters: *b"I4\0\0\0\0\0",
-            size: 2,
-        },
-        0o44 => Name {
-            letters: *b"F4\0\0\0\0\0",
-            size: 2,
-        },
-        0o54 => Name {
-            letters: *b"U4\0\0\0\0\0",
-            size: 2,
-        },
-        0o30 => Name {
-            letters: *b"I8\0\0\0\0\0",
-            size: 2,
-        },
-        0o40 => Name {
-            letters: *b"F8\0\0\0\0\0",
-            size: 2,
-        },
-        0o50 => Name {
-            letters: *b"U8\0\0\0\0\0",
-            size: 2,
-        },
-        _ => Name {
-            letters: [0u8; 7],
-            size: 0,
-        },
+        0o00 => Name(*b"L\0\0\0\0\0\0", 1),
+        0o10 => Name(*b"B\0\0\0\0\0\0", 1),
+        0o11 => Name(*b"BOOLEAN", 7),
+        0o20 => Name(*b"A\0\0\0\0\0\0", 1),
+        0o21 => Name(*b"J\0\0\0\0\0\0", 1),
+        0o31 => Name(*b"I1\0\0\0\0\0", 2),
+        0o51 => Name(*b"U1\0\0\0\0\0", 2),
+        0o32 => Name(*b"I2\0\0\0\0\0", 2),
+        0o52 => Name(*b"U2\0\0\0\0\0", 2),
+        0o34 => Name(*b"I4\0\0\0\0\0", 2),
+        0o44 => Name(*b"F4\0\0\0\0\0", 2),
+        0o54 => Name(*b"U4\0\0\0\0\0", 2),
+        0o30 => Name(*b"I8\0\0\0\0\0", 2),
+        0o40 => Name(*b"F8\0\0\0\0\0", 2),
+        0o50 => Name(*b"U8\0\0\0\0\0", 2),
+        _ => Name([0u8; 7], 0),
     }
 }
 
