@@ -2,6 +2,9 @@ use element::Element;
 use element::Got;
 use item::Kind;
 use libc::STDOUT_FILENO;
+use reader::Answer;
+use reader::Phase;
+use reader::Reader;
 
 fn text(s: &[u8]) {
     io::write_all(STDOUT_FILENO, s);
@@ -136,6 +139,93 @@ fn set_line(code: u32, i: usize, e: Element) {
     text(b"\n");
 }
 
+fn answer_word(a: Answer) {
+    match a {
+        Answer::More => text(b"more"),
+        Answer::Complete => text(b"complete"),
+        Answer::Refusal(number) => {
+            text(b"refused ");
+            decimal(number as u64);
+        }
+    }
+}
+
+// The answer to a piece, and the bytes of it that were consumed.
+fn fed_fields(r: Reader, piece: &[u8]) {
+    let f = reader::feed(r, piece);
+    let answer = f.answer;
+    text(b"\t");
+    answer_word(answer);
+    text(b"\t");
+    decimal(f.consumed as u64);
+}
+
+// The same bytes in pieces of one, as long as they are consumed: the answer behind the last, and how many there were.
+fn single_fields(r: Reader, bytes: &[u8]) {
+    let mut state = r;
+    let mut i: usize = 0;
+    while i < bytes.len() {
+        let f = reader::feed(state, &bytes[i..i + 1]);
+        if f.consumed == 0 {
+            break;
+        }
+        state = f.reader;
+        i += 1;
+    }
+    text(b"\t");
+    answer_word(reader::status_of(state));
+    text(b"\t");
+    decimal(i as u64);
+}
+
+// N, bytes: answer and consumed of one piece; then of pieces of one byte
+fn feed_line(n: usize, bytes: &[u8]) {
+    text(b"feed\t");
+    decimal(n as u64);
+    text(b"\t");
+    hex_bytes(bytes);
+    fed_fields(reader::fresh_reader(n), bytes);
+    single_fields(reader::fresh_reader(n), bytes);
+    text(b"\n");
+}
+
+// N, bytes, more bytes: answer and consumed of the second piece
+fn then_line(n: usize, bytes: &[u8], more: &[u8]) {
+    let f = reader::feed(reader::fresh_reader(n), bytes);
+    let after = f.reader;
+    text(b"then\t");
+    decimal(n as u64);
+    text(b"\t");
+    hex_bytes(bytes);
+    text(b"\t");
+    hex_bytes(more);
+    fed_fields(after, more);
+    text(b"\n");
+}
+
+// N, bytes read, level, the count at depth 1: answer and consumed of the piece 01, in a state before a format byte
+fn state_line(size: usize, read: usize, level: usize, awaited_first: u32) {
+    let mut awaited = [0u32; 16];
+    awaited[0] = awaited_first;
+    text(b"state\t");
+    decimal(size as u64);
+    text(b"\t");
+    decimal(read as u64);
+    text(b"\t");
+    decimal(level as u64);
+    text(b"\t");
+    decimal(awaited_first as u64);
+    let r = Reader {
+        size,
+        read,
+        level,
+        awaited,
+        phase: Phase::Format,
+    };
+    fed_fields(r, b"\x01");
+    text(b"\n");
+}
+
 fn headers() {
     header_line(b"\x01\x00");
     header_line(b"\x02\x00\x00");
@@ -206,6 +296,74 @@ fn sets() {
     set_line(0o77, 0, Element::Byte(0));
 }
 
+fn feeds() {
+    feed_line(0, b"");
+    feed_line(1, b"");
+    feed_line(2, b"\x01\x00");
+    feed_line(3, b"\x01");
+    feed_line(3, b"\x02\x00\x00");
+    feed_line(5, b"\x69");
+    feed_line(4, b"\x41\x03");
+    feed_line(4, b"\x41\x02\x41\x80");
+    feed_line(6, b"\x01\x02\x41\x01");
+    feed_line(8, b"\x01\x02\xB1\x02");
+    feed_line(4, b"\x00");
+    feed_line(4, b"\xFD");
+    feed_line(4, b"\xFC");
+    feed_line(5, b"\x43\x00\x00\x01\x41");
+    feed_line(3, b"\x25\x01\x07");
+    feed_line(
+        32,
+        b"\x01\x01\x01\x01\x01\x01\x01\x01\x01\x01\x01\x01\x01\x01\x01\x01\x01\x01\x01\x01\x01\x01\x01\x01\x01\x01\x01\x01\x01\x01\x01\x00",
+    );
+    feed_line(
+        34,
+        b"\x01\x01\x01\x01\x01\x01\x01\x01\x01\x01\x01\x01\x01\x01\x01\x01\x01\x01\x01\x01\x01\x01\x01\x01\x01\x01\x01\x01\x01\x01\x01\x01\x01\x00",
+    );
+    feed_line(
+        36,
+        b"\x01\x01\x01\x01\x01\x01\x01\x01\x01\x01\x01\x01\x01\x01\x01\x01\x01\x01\x01\x01\x01\x01\x01\x01\x01\x01\x01\x01\x01\x02\x01\x01",
+    );
+    feed_line(40, b"\x01\xC8");
+    feed_line(40, b"\x02\x00\xC8");
+    feed_line(42, b"\x01\x14");
+    feed_line(41, b"\x01\x14");
+    feed_line(2, b"\x01\x00\x41");
+    feed_line(7, b"\x01\x02\x41\x01\x41\x01");
+    feed_line(7, b"\x01\x02\x41\x01\x41\x01\x00");
+    feed_line(8, b"\x01\x02\x41\x02\x41\x42\x25\x00");
+    feed_line(6, b"\xB1\x04\x00\x00\x00\x07");
+    feed_line(32000, b"\x43\x00\x7C\xFC");
+    feed_line(32000, b"\x43\x00\x7C\xFD");
+    feed_line(32000, b"\x43\x00\x7C\xFC\x7F\x80");
+    feed_line(32001, b"");
+    feed_line(32001, b"\x41");
+}
+
+fn thens() {
+    then_line(2, b"\x01\x00", b"");
+    then_line(2, b"\x01\x00", b"\x01");
+    then_line(4, b"\x41\x03", b"\x41");
+    then_line(4, b"\x41\x03", b"");
+    then_line(0, b"", b"");
+    then_line(0, b"", b"\x41");
+    then_line(1, b"", b"\x41");
+    then_line(4, b"\x41\x02\x41", b"\x42\x43");
+    then_line(6, b"\x01\x02\x41\x00", b"\x41\x00\x41");
+}
+
+fn states() {
+    state_line(2, 0, 1, 1);
+    state_line(2, 3, 1, 1);
+    state_line(2, 0, 17, 1);
+    state_line(2, 0, 1, 2);
+    state_line(2, 0, 1, 0);
+    state_line(32001, 0, 1, 1);
+    state_line(2, 0, 0, 1);
+    state_line(2, 2, 0, 0);
+    state_line(4, 2, 1, 1);
+}
+
 fn main() {
     let mut code: u32 = 0;
     while code < 64 {
@@ -215,4 +373,7 @@ fn main() {
     headers();
     gets();
     sets();
+    feeds();
+    thens();
+    states();
 }

@@ -1,11 +1,13 @@
 -- Laws of the table of codes: a rule that a computed test finds in every entry holds of every code, and a number that no entry has is unknown.
-use Prim.Native.Nat.{ℕ, _<_, _≤_}
-use mathlib.Core.Path.{_≡_, refl, sym, subst}
+use Prim.Native.Nat.{ℕ, zero, suc, _*_, _%_, _^_, _∣_, _<_, _≤_}
+use native.Mathlib.Nat.{pow-suc, dvd-of-mod-eq-zero, mod-eq-zero-of-dvd, dvd-mul-left-of-dvd}
+use native.Mathlib.Omega.{arith}
+use mathlib.Core.Path.{_≡_, refl, sym, ap, subst, _∙_}
 use mathlib.Core.Bool.{Bool, true, false, cond, _&&_}
 use mathlib.Core.List.{List, [], _∷_}
-use lib.Dec.{T, eqb, ltb, leb, ltb→lt, leb→le}
-use borrow.Author.Tests.{eqb-true, ne-eqb}
-use Rattle.item.specs.Code.{Code, coded, codes, found, kindOf}
+use lib.Dec.{T, eqb, ltb, leb, eqb→eq, ltb→lt, leb→le}
+use borrow.Author.Tests.{eqb-true, eq-eqb, ne-eqb}
+use Rattle.item.specs.Code.{L, A, Code, coded, codes, found, kindOf, allowed, largest}
 use Rattle.item.specs.declared.Kind.{Kind}
 use Rattle.item.specs.declared.Kind.the-variants.{List as aList, Plain, Unknown}
 use Rattle.item.proofs.Keys.{Off, isKeyOf, off-key}
@@ -61,6 +63,27 @@ plain-width c w e =
     let t : T (ltb 0 w && leb w 8) = subst (λ (k : Kind). T (wide k)) e (found-each (λ x. wide (x .kind)) c codes tt tt) in
     (ltb→lt 0 w (and-left (ltb 0 w) (leb w 8) t), leb→le w 8 (and-right (ltb 0 w) (leb w 8) t))
 
+-- L is no code of plain items
+pub plain-not-list : (c w : ℕ) → kindOf c ≡ Plain w → c ≡ L → ⊥
+unfolding kindOf
+plain-not-list c w k e =
+    let p : kindOf L ≡ Plain w = ap kindOf (sym e) ∙ k in
+    let q : kindOf L ≡ aList = refl in
+    let z : _≡_ {A = ℕ} 0 1 = cc in
+    omega arith
+
+-- and no other code is a list's
+abbrev listed : ℕ → Kind → Bool
+listed n aList = eqb n L
+listed n (Plain w) = true
+listed n Unknown = true
+
+pub list-code : (c : ℕ) → kindOf c ≡ aList → c ≡ L
+unfolding kindOf
+list-code c e =
+    let t = found-each (λ x. listed (x .number) (x .kind)) c codes tt tt in
+    eqb→eq c L (subst (λ (n : ℕ). T (eqb n L)) (found-number c codes) (subst (λ (k : Kind). T (listed (found c codes .number) k)) e t))
+
 -- a known code is below 64, so that a format byte is a byte
 abbrev small : ℕ → Kind → Bool
 small n aList = ltb n 64
@@ -72,3 +95,26 @@ unfolding kindOf
 plain-small c w e =
     let t = found-each (λ x. small (x .number) (x .kind)) c codes tt tt in
     ltb→lt c 64 (subst (λ (n : ℕ). T (ltb n 64)) (found-number c codes) (subst (λ (k : Kind). T (small (found c codes .number) k)) e t))
+
+-- every width divides 256, so that a length whose last byte is 00 is allowed
+abbrev divides : Kind → Bool
+divides aList = true
+divides (Plain w) = eqb (256 % w) 0
+divides Unknown = true
+
+pub allowed-low : (c w v j : ℕ) → kindOf c ≡ Plain w → 0 < j → allowed c (v * 256 ^ j) ≡ true
+unfolding allowed kindOf
+allowed-low c w v zero e h = absurd (omega arith)
+allowed-low c w v (suc j) e h =
+    let t : T (eqb (256 % w) 0) = subst (λ (k : Kind). T (divides k)) e (found-each (λ x. divides (x .kind)) c codes tt tt) in
+    let d : w ∣ 256 = dvd-of-mod-eq-zero w (eqb→eq (256 % w) 0 t) in
+    let m : (v * 256 ^ suc j) % w ≡ 0 = mod-eq-zero-of-dvd w (rw (pow-suc 256 j) (dvd-mul-left-of-dvd w (dvd-mul-left-of-dvd w d (256 ^ j)) v)) in
+    rw e (eq-eqb ((v * 256 ^ suc j) % w) 0 m)
+
+pub largest-le : (c : ℕ) → largest c ≤ 0xFF
+unfolding largest
+largest-le c = go (eqb c A)
+  where
+    go : (b : Bool) → cond b 0x7F 0xFF ≤ 0xFF
+    go true = omega arith
+    go false = omega arith

@@ -7,9 +7,9 @@ use native.Mathlib.Omega.{arith}
 use lib.ListN.{length, take, drop}
 use lib.Seq.{take-at, drop-at}
 use Rattle.wire.specs.Number.{numberOf}
-use Rattle.item.specs.Code.{L, kindOf}
-use Rattle.item.specs.Item.{Item, Items, plain, list, none, more, count, Tree, empty, one, Form, Content, header, Spells, SpellsAll, Says}
-use Rattle.item.specs.declared.Kind.the-variants.{List as aList, Plain}
+use Rattle.item.specs.Code.{L}
+use Rattle.item.specs.Item.{Item, Items, plain, list, none, more, count, Tree, empty, one, Form, header, Spells, SpellsAll, Says}
+use Rattle.item.proofs.Codes.{plain-not-list}
 
 -- two lists that begin with as many elements
 parts : (x x′ v v′ : List ℕ) → length x ≡ length x′ → x ++ v ≡ x′ ++ v′ → (x ≡ x′) × (v ≡ v′)
@@ -37,14 +37,6 @@ pub record Same {X : Type 0} (i j : X) (u u′ v v′ : List ℕ) : Type 0 where
 heads : (u u′ v v′ h h′ x x′ : List ℕ) → u ≡ h ++ x → u′ ≡ h′ ++ x′ → u ++ v ≡ u′ ++ v′ → h ++ (x ++ v) ≡ h′ ++ (x′ ++ v′)
 heads u u′ v v′ h h′ x x′ e e′ q = rw (← append-assoc h x v, ← append-assoc h′ x′ v′, ← e, ← e′) q
 
-no-list-code : {f : Form} (c : ℕ) (x : List ℕ) → Content f c x → c ≡ L → ⊥
-unfolding kindOf
-no-list-code c x con e =
-    let p : kindOf L ≡ Plain (con .width) = ap kindOf (sym e) ∙ con .known in
-    let q : kindOf L ≡ aList = refl in
-    let z : _≡_ {A = ℕ} 0 1 = cc in
-    omega arith
-
 some-bytes : (f : Form) (i : Item) (d : ℕ) (t : List ℕ) → Spells f d i t → t ≡ [] → ⊥
 some-bytes f (plain c x) d t (ls, e, lens, con, deep) n = let z : _≡_ {A = ℕ} 0 1 = cc in omega arith
 some-bytes f (list is) d t (ls, body, e, lens, all, deep) n = let z : _≡_ {A = ℕ} 0 1 = cc in omega arith
@@ -58,9 +50,9 @@ module _ (f g : Form) where
         let p = parts x x′ v v′ n (h .2) in
         record { read = ap₂ plain (h .0) (p .0); bytes = e ∙ ap₂ (λ (y z : List ℕ). y ++ z) (ap₂ header (h .0) (h .1)) (p .0) ∙ sym e′; rest = p .1 }
     item-once (plain c x) d (list js) u u′ v v′ (ls, e, lens, con, deep) (ls′, body′, e′, lens′, all′, deep′) q =
-        absurd (no-list-code c x con (headers c L ls ls′ (x ++ v) (body′ ++ v′) (lens .few) (lens′ .few) (heads u u′ v v′ (header c ls) (header L ls′) x body′ e e′ q) .0))
+        absurd (plain-not-list c (con .width) (con .known) (headers c L ls ls′ (x ++ v) (body′ ++ v′) (lens .few) (lens′ .few) (heads u u′ v v′ (header c ls) (header L ls′) x body′ e e′ q) .0))
     item-once (list is) d (plain c′ x′) u u′ v v′ (ls, body, e, lens, all, deep) (ls′, e′, lens′, con′, deep′) q =
-        absurd (no-list-code c′ x′ con′ (sym (headers L c′ ls ls′ (body ++ v) (x′ ++ v′) (lens .few) (lens′ .few) (heads u u′ v v′ (header L ls) (header c′ ls′) body x′ e e′ q) .0)))
+        absurd (plain-not-list c′ (con′ .width) (con′ .known) (sym (headers L c′ ls ls′ (body ++ v) (x′ ++ v′) (lens .few) (lens′ .few) (heads u u′ v v′ (header L ls) (header c′ ls′) body x′ e e′ q) .0)))
     item-once (list is) d (list js) u u′ v v′ (ls, body, e, lens, all, deep) (ls′, body′, e′, lens′, all′, deep′) q =
         let h = headers L L ls ls′ (body ++ v) (body′ ++ v′) (lens .few) (lens′ .few) (heads u u′ v v′ (header L ls) (header L ls′) body body′ e e′ q) in
         let n : count is ≡ count js = sym (lens .says) ∙ ap numberOf (h .1) ∙ lens′ .says in

@@ -34,6 +34,15 @@ gets-requires c κs = search needs
 sets-requires : tie.Need-sets-requires Inv-loop μ-loop
 sets-requires c κs = search needs
 
+feeds-requires : tie.Need-feeds-requires Inv-loop μ-loop
+feeds-requires c κs = search needs
+
+thens-requires : tie.Need-thens-requires Inv-loop μ-loop
+thens-requires c κs = search needs
+
+states-requires : tie.Need-states-requires Inv-loop μ-loop
+states-requires c κs = search needs
+
 returns : tie.Need-returns Inv-loop μ-loop
 returns c = search needs
 
@@ -51,4 +60,7 @@ main-spec =
     headers-requires
     gets-requires
     sets-requires
+    feeds-requires
+    thens-requires
+    states-requires
     returns)

@@ -1,0 +1,25 @@
+-- The role of each byte of a good text: format byte, length byte or content byte, in order.
+use Prim.Native.Nat.{ℕ, suc, _+_, _*_}
+use mathlib.Core.List.{List, [], _∷_, _++_, map}
+use lib.ListN.{length}
+use Rattle.item.specs.Code.{L}
+use Rattle.item.specs.Item.{Item, Items, plain, list, none, more, Tree, empty, one, good, Spells, SpellsAll, Says}
+use Rattle.reader.specs.Place.{Role, formatByte, lengthByte, contentByte}
+
+-- the length bytes of an item of code c at depth d; those before them say v
+abbrev pub lengthRoles : ℕ → ℕ → ℕ → List ℕ → List Role
+lengthRoles c d v [] = []
+lengthRoles c d v (b ∷ bs) = lengthByte c d (length bs) v ∷ lengthRoles c d (v * 256 + b) bs
+
+unfoldable mutual
+  pub itemRoles : (i : Item) (d : ℕ) (t : List ℕ) → Spells good d i t → List Role
+  itemRoles (plain c x) d t (ls, e, lens, con, deep) = formatByte ∷ lengthRoles c d 0 ls ++ map (λ (b : ℕ). contentByte) x
+  itemRoles (list is) d t (ls, body, e, lens, all, deep) = formatByte ∷ lengthRoles L d 0 ls ++ itemsRoles is (suc d) body all
+
+  pub itemsRoles : (is : Items) (d : ℕ) (t : List ℕ) → SpellsAll good d is t → List Role
+  itemsRoles none d t e = []
+  itemsRoles (more i is) d t (u, v, e, s, all) = itemRoles i d u s ++ itemsRoles is d v all
+
+abbrev pub rolesOf : (w : Tree) (t : List ℕ) → Says good w t → List Role
+rolesOf empty t s = []
+rolesOf (one i) t s = itemRoles i 1 t (s .0)

@@ -1,0 +1,3 @@
+pub mod Grammar
+pub mod Sizes
+pub mod Exist

@@ -1,0 +1,6 @@
+pub mod Tests
+pub mod Bytes
+pub mod Right
+pub mod Allowed
+pub mod Eats
+pub mod Determined

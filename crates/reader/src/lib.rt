@@ -1,0 +1,553 @@
+ghost use mathlib.Core.Path.{_≡_};
+ghost use mathlib.Core.Bool.{true};
+ghost use Prim.Native.Nat.{_+_, _*_, _-_, _^_, _≤_, _<_};
+ghost use Rattle.levels.specs.Levels.{stack};
+ghost use Rattle.follow.specs.Fits.{fitsItems, fitsList, fitsPlain, fitsLengths};
+ghost use Rattle.reader.specs.State.{state, refused, fresh, stateOf, readerIn, readerOf};
+ghost use Rattle.reader.specs.Step.{known, whole, atFormat, atList, atPlain, atLength, atContent, step};
+ghost use Rattle.reader.specs.Feed.{isPlain, allowsPhase, allowsFrame, allowsEnd, allows, status, eat, fedOf};
+ghost use Rattle.reader.specs.Asked.{Few, Weight, Clean, Spot, Ready};
+ghost use Rattle.item.specs.Code.{kindOf};
+use item::Kind;
+use levels::Levels;
+
+// The bytes that a good text may have.
+const LONGEST: usize = 32_000;
+
+// What the next byte is. At least one length byte, or one content byte, is left in Length and Content.
+pub enum Phase {
+    Format,
+    Length {
+        code: u32,
+        left: usize,
+        value: usize,
+    },
+    Content {
+        code: u32,
+        left: usize,
+    },
+    Refused(u32),
+}
+
+// N, the bytes read, and awaited[d - 1] the items still awaited at depth d, the innermost open depth being level.
+pub struct Reader {
+    pub size: usize,
+    pub read: usize,
+    pub level: usize,
+    pub awaited: [u32; 16],
+    pub phase: Phase,
+}
+
+pub enum Answer {
+    More,
+    Complete,
+    Refusal(u32),
+}
+
+// What a feed answers, the bytes of the piece that it consumed, and the reader after it.
+pub struct Fed {
+    pub answer: Answer,
+    pub consumed: usize,
+    pub reader: Reader,
+}
+
+// Whether m items, and nothing else, may fill exactly n bytes.
+fn fits_items(n: usize, m: usize) -> bool
+    ensures { λ r. ⌜ r ≡ fitsItems n m ⌝ }
+{
+    if m == 0 { n == 0 } else { m <= n / 2 }
+}
+
+// 256 to the power j.
+fn weight(j: usize) -> usize
+    requires { ⌜ j ≤ 3 ⌝ }
+    ensures { λ r. ⌜ Weight j r ⌝ }
+{
+    match j {
+        0 => 1,
+        1 => 0x100,
+        2 => 0x1_0000,
+        _ => 0x100_0000,
+    }
+}
+
+fn fits_list(d: usize, n: usize, m: usize, j: usize, v: usize) -> bool
+    requires { ⌜ Few m j v ⌝ }
+    ensures { λ r. ⌜ r ≡ fitsList d n m j v ⌝ }
+{
+    if n < j {
+        return false;
+    }
+    let left = n - j;
+    if d == 16 {
+        if v == 0 {
+            return fits_items(left, m);
+        }
+        return false;
+    }
+    if m + v == 0 {
+        return left != 1;
+    }
+    2 * (m + v * weight(j)) <= left
+}
+
+fn fits_plain(c: u32, n: usize, m: usize, j: usize, v: usize) -> bool
+    requires { ⌜ Few m j v ⌝ }
+    ensures { λ r. ⌜ r ≡ fitsPlain c n m j v ⌝ }
+{
+    let p = weight(j);
+    let low = v * p;
+    if n < j + low + 2 * m {
+        return false;
+    }
+    if m == 0 {
+        if n - j < low + p {
+            return item::is_allowed(c, n - j);
+        }
+        return false;
+    }
+    true
+}
+
+// Whether anything may follow with j length bytes to come, behind those that say v.
+fn fits_lengths(c: u32, d: usize, n: usize, m: usize, j: usize, v: usize) -> bool
+    requires { ⌜ Few m j v ⌝ }
+    ensures { λ r. ⌜ r ≡ fitsLengths c d n m j v ⌝ }
+{
+    if c == 0 {
+        fits_list(d, n, m, j, v)
+    } else {
+        fits_plain(c, n, m, j, v)
+    }
+}
+
+fn is_known(c: u32) -> bool
+    ensures { λ r. ⌜ r ≡ known c ⌝ }
+{
+    match item::kind_of(c) {
+        Kind::List => true,
+        Kind::Plain(_) => true,
+        Kind::Unknown => false,
+    }
+}
+
+fn is_plain(c: u32) -> bool
+    ensures { λ r. ⌜ r ≡ isPlain (kindOf c) ⌝ }
+{
+    match item::kind_of(c) {
+        Kind::List => false,
+        Kind::Plain(_) => true,
+        Kind::Unknown => false,
+    }
+}
+
+fn reader_in(n: usize, k: usize, l: Levels, phase: Phase) -> Reader
+    ensures { λ r. ⌜ r ≡ readerIn n k l phase ⌝ }
+{
+    let level = l.level;
+    let awaited = l.awaited;
+    Reader {
+        size: n,
+        read: k,
+        level,
+        awaited,
+        phase,
+    }
+}
+
+// A refused reader keeps N and its number, all else zero.
+fn refusal(n: usize, number: u32) -> Reader
+    ensures { λ r. ⌜ r ≡ readerOf (refused n number) ⌝ }
+{
+    reader_in(n, 0, levels::none(), Phase::Refused(number))
+}
+
+// An item is whole: the levels that await nothing are left.
+fn whole_item(n: usize, k: usize, l: Levels) -> Reader
+    requires { ⌜ Clean l ⌝ }
+    ensures { λ r. ⌜ r ≡ readerOf (whole n k (stack l)) ⌝ }
+{
+    reader_in(n, k, levels::closed(l), Phase::Format)
+}
+
+fn at_format(n: usize, k: usize, l: Levels, b: u8) -> Reader
+    requires { ⌜ Spot n k l ⌝ }
+    ensures { λ r. ⌜ r ≡ readerOf (atFormat n k (stack l) b) ⌝ }
+{
+    let c = (b / 4) as u32;
+    let j = (b % 4) as usize;
+    if is_known(c) {
+        if j == 0 {
+            return refusal(n, 2);
+        }
+        let d = l.level;
+        let low = levels::begun(l);
+        if fits_lengths(c, d, n - k, levels::sum(low), j, 0) {
+            return reader_in(
+                n,
+                k,
+                low,
+                Phase::Length {
+                    code: c,
+                    left: j,
+                    value: 0,
+                },
+            );
+        }
+        return refusal(n, 5);
+    }
+    refusal(n, 1)
+}
+
+fn at_list(n: usize, k: usize, l: Levels, v: usize) -> Reader
+    requires { ⌜ Spot n k l ⌝ }
+    requires { ⌜ v < 256 ^ 3 ⌝ }
+    ensures { λ r. ⌜ r ≡ readerOf (atList n k (stack l) v) ⌝ }
+{
+    let m = levels::sum(l);
+    if v == 0 {
+        if fits_items(n - k, m) {
+            return whole_item(n, k, l);
+        }
+        return refusal(n, 5);
+    }
+    let depth = l.level;
+    if depth == 16 {
+        return refusal(n, 4);
+    }
+    if fits_items(n - k, m + v) {
+        return reader_in(n, k, levels::opened(l, v as u32), Phase::Format);
+    }
+    refusal(n, 5)
+}
+
+fn at_plain(n: usize, k: usize, l: Levels, c: u32, v: usize) -> Reader
+    requires { ⌜ Spot n k l ⌝ }
+    ensures { λ r. ⌜ r ≡ readerOf (atPlain n k (stack l) c v) ⌝ }
+{
+    let left = n - k;
+    if item::is_allowed(c, v) {
+        if v <= left {
+            if fits_items(left - v, levels::sum(l)) {
+                return content_from(n, k, l, c, v);
+            }
+        }
+        return refusal(n, 5);
+    }
+    refusal(n, 3)
+}
+
+// A content of l bytes begins, or is whole where there is none.
+fn content_from(n: usize, k: usize, l: Levels, c: u32, v: usize) -> Reader
+    requires { ⌜ Clean l ⌝ }
+    ensures { λ r. ⌜ r ≡ readerOf (Rattle.reader.specs.Step.contentFrom n k (stack l) c v) ⌝ }
+{
+    if v == 0 {
+        whole_item(n, k, l)
+    } else {
+        reader_in(n, k, l, Phase::Content { code: c, left: v })
+    }
+}
+
+fn at_length(n: usize, k: usize, l: Levels, c: u32, j: usize, v: usize) -> Reader
+    requires { ⌜ Spot n k l ⌝ }
+    requires { ⌜ (j ≤ 3) × (v < 256 ^ 3) ⌝ }
+    ensures { λ r. ⌜ r ≡ readerOf (atLength n k (stack l) c j v) ⌝ }
+{
+    if 0 < j {
+        let d = l.level;
+        if fits_lengths(c, d, n - k, levels::sum(l), j, v) {
+            return reader_in(
+                n,
+                k,
+                l,
+                Phase::Length {
+                    code: c,
+                    left: j,
+                    value: v,
+                },
+            );
+        }
+        return refusal(n, 5);
+    }
+    if c == 0 {
+        at_list(n, k, l, v)
+    } else {
+        at_plain(n, k, l, c, v)
+    }
+}
+
+fn at_content(n: usize, k: usize, l: Levels, c: u32, left: usize, b: u8) -> Reader
+    requires { ⌜ Spot n k l ⌝ }
+    requires { ⌜ 0 < left ⌝ }
+    ensures { λ r. ⌜ r ≡ readerOf (atContent n k (stack l) c left b) ⌝ }
+{
+    if b <= item::largest_byte(c) {
+        content_from(n, k, l, c, left - 1)
+    } else {
+        refusal(n, 6)
+    }
+}
+
+fn levels_in(r: Reader) -> Levels
+    ensures { λ l. ⌜ l ≡ Rattle.reader.specs.Feed.levelsIn r ⌝ }
+{
+    let level = r.level;
+    let awaited = r.awaited;
+    Levels { awaited, level }
+}
+
+// One byte more.
+fn step_byte(r: Reader, b: u8) -> Reader
+    requires { ⌜ Ready r ⌝ }
+    ensures { λ s. ⌜ s ≡ readerOf (step (stateOf r) b) ⌝ }
+{
+    let n = r.size;
+    let k = r.read + 1;
+    let l = levels_in(r);
+    let phase = r.phase;
+    match phase {
+        Phase::Format => at_format(n, k, l, b),
+        Phase::Length { code, left, value } => at_length(
+            n,
+            k,
+            l,
+            code,
+            left - 1,
+            value * 256 + (b as usize),
+        ),
+        Phase::Content { code, left } => at_content(n, k, l, code, left, b),
+        Phase::Refused(number) => refusal(n, number),
+    }
+}
+
+// What a reader that is fed nothing more answers.
+pub fn status_of(r: Reader) -> Answer
+    ensures { λ a. ⌜ a ≡ status (stateOf r) ⌝ }
+{
+    let phase = r.phase;
+    let d = r.level;
+    match phase {
+        Phase::Format => if d == 0 {
+            Answer::Complete
+        } else {
+            Answer::More
+        },
+        Phase::Length {
+            code: _,
+            left: _,
+            value: _,
+        } => Answer::More,
+        Phase::Content { code: _, left: _ } => Answer::More,
+        Phase::Refused(number) => Answer::Refusal(number),
+    }
+}
+
+fn allows_format(n: usize, l: Levels) -> bool
+    requires { ⌜ Clean l ⌝ }
+    ensures { λ r. ⌜ r ≡ allowsPhase Phase.Format n (stack l) ⌝ }
+{
+    let d = l.level;
+    if d == 0 {
+        return fits_items(n, levels::sum(l));
+    }
+    if 0 < levels::top(l) {
+        return fits_items(n, levels::sum(l));
+    }
+    false
+}
+
+fn allows_length(c: u32, j: usize, v: usize, n: usize, l: Levels) -> bool
+    requires { ⌜ Clean l ⌝ }
+    ensures { λ r. ⌜ r ≡ allowsPhase (Phase.Length c j v) n (stack l) ⌝ }
+{
+    let d = l.level;
+    if d == 0 {
+        return false;
+    }
+    if is_known(c) {
+        if j == 0 {
+            return false;
+        }
+        if 3 < j {
+            return false;
+        }
+        if v < weight(3 - j) {
+            return fits_lengths(c, d, n, levels::sum(l), j, v);
+        }
+    }
+    false
+}
+
+fn allows_content(c: u32, left: usize, n: usize, l: Levels) -> bool
+    requires { ⌜ Clean l ⌝ }
+    ensures { λ r. ⌜ r ≡ allowsPhase (Phase.Content c left) n (stack l) ⌝ }
+{
+    let d = l.level;
+    if d == 0 {
+        return false;
+    }
+    if is_plain(c) {
+        if left == 0 {
+            return false;
+        }
+        if left <= n {
+            return fits_items(n - left, levels::sum(l));
+        }
+    }
+    false
+}
+
+fn allows_frame(r: Reader) -> bool
+    ensures { λ s. ⌜ s ≡ allowsFrame r ⌝ }
+{
+    let n = r.size;
+    let k = r.read;
+    if LONGEST < n {
+        return false;
+    }
+    if n < k {
+        return false;
+    }
+    levels::is_clean(levels_in(r))
+}
+
+fn allows_end(r: Reader) -> bool
+    ensures { λ s. ⌜ s ≡ allowsEnd r ⌝ }
+{
+    let k = r.read;
+    let d = r.level;
+    if k == 0 {
+        if d == 0 {
+            return levels::is_clean(levels_in(r));
+        }
+    }
+    false
+}
+
+fn is_refusal(number: u32) -> bool
+    ensures { λ r. ⌜ r ≡ Rattle.reader.specs.Feed.refusalNumber number ⌝ }
+{
+    if number == 0 {
+        return false;
+    }
+    number <= 6
+}
+
+// The state does not break the list of docs/STATES.md.
+pub fn allows_state(r: Reader) -> bool
+    ensures { λ s. ⌜ s ≡ allows r ⌝ }
+{
+    let n = r.size;
+    let k = r.read;
+    let phase = r.phase;
+    match phase {
+        Phase::Format => if allows_frame(r) {
+            allows_format(n - k, levels_in(r))
+        } else {
+            false
+        },
+        Phase::Length { code, left, value } => if allows_frame(r) {
+            allows_length(code, left, value, n - k, levels_in(r))
+        } else {
+            false
+        },
+        Phase::Content { code, left } => if allows_frame(r) {
+            allows_content(code, left, n - k, levels_in(r))
+        } else {
+            false
+        },
+        Phase::Refused(number) => if allows_end(r) {
+            is_refusal(number)
+        } else {
+            false
+        },
+    }
+}
+
+fn eat_all(r: Reader, piece: &[u8]) -> Fed
+    requires { ⌜ (allows r ≡ true) × (status (stateOf r) ≡ Answer.More) ⌝ }
+    ensures { λ f. ⌜ f ≡ eat (stateOf r) 0 (now (piece .entry)) ⌝ }
+{
+    let mut state = r;
+    let mut i: usize = 0;
+    while i < piece.len() {
+        state = step_byte(state, piece[i]);
+        i += 1;
+        let answer = status_of(state);
+        match answer {
+            Answer::More => {}
+            Answer::Complete => {
+                return Fed {
+                    answer: Answer::Complete,
+                    consumed: i,
+                    reader: state,
+                };
+            }
+            Answer::Refusal(number) => {
+                return Fed {
+                    answer: Answer::Refusal(number),
+                    consumed: i,
+                    reader: state,
+                };
+            }
+        }
+    }
+    Fed {
+        answer: Answer::More,
+        consumed: i,
+        reader: state,
+    }
+}
+
+// A piece more, perhaps empty.
+pub fn feed(r: Reader, piece: &[u8]) -> Fed
+    ensures { λ f. ⌜ f ≡ fedOf r (now (piece .entry)) ⌝ }
+{
+    if allows_state(r) {
+        let answer = status_of(r);
+        match answer {
+            Answer::More => eat_all(r, piece),
+            Answer::Complete => if piece.len() == 0 {
+                Fed {
+                    answer: Answer::Complete,
+                    consumed: 0,
+                    reader: r,
+                }
+            } else {
+                Fed {
+                    answer: Answer::Refusal(7),
+                    consumed: 0,
+                    reader: r,
+                }
+            },
+            Answer::Refusal(number) => Fed {
+                answer: Answer::Refusal(number),
+                consumed: 0,
+                reader: r,
+            },
+        }
+    } else {
+        Fed {
+            answer: Answer::Refusal(14),
+            consumed: 0,
+            reader: r,
+        }
+    }
+}
+
+// A reader that is told N.
+pub fn fresh_reader(n: usize) -> Reader
+    ensures { λ r. ⌜ r ≡ readerOf (fresh n) ⌝ }
+{
+    if n == 0 {
+        return reader_in(n, 0, levels::none(), Phase::Format);
+    }
+    if n == 1 {
+        return refusal(n, 5);
+    }
+    if LONGEST < n {
+        return refusal(n, 5);
+    }
+    reader_in(n, 0, levels::opened(levels::none(), 1), Phase::Format)
+}
