@@ -296,7 +296,8 @@ fn sets() {
     set_line(0o77, 0, Element::Byte(0));
 }
 
-fn feeds() {
+// The lines that are also proved, as one statement over a table.
+fn starred_lines() {
     feed_line(0, b"");
     feed_line(1, b"");
     feed_line(2, b"\x01\x00");
@@ -312,6 +313,10 @@ fn feeds() {
     feed_line(4, b"\xFC");
     feed_line(5, b"\x43\x00\x00\x01\x41");
     feed_line(3, b"\x25\x01\x07");
+}
+
+// The two lines of document 01 about depth, and one between them that is 5 before it could be 4.
+fn depth_lines() {
     feed_line(
         32,
         b"\x01\x01\x01\x01\x01\x01\x01\x01\x01\x01\x01\x01\x01\x01\x01\x01\x01\x01\x01\x01\x01\x01\x01\x01\x01\x01\x01\x01\x01\x01\x01\x00",
@@ -324,6 +329,9 @@ fn feeds() {
         36,
         b"\x01\x01\x01\x01\x01\x01\x01\x01\x01\x01\x01\x01\x01\x01\x01\x01\x01\x01\x01\x01\x01\x01\x01\x01\x01\x01\x01\x01\x01\x02\x01\x01",
     );
+}
+
+fn further_lines() {
     feed_line(40, b"\x01\xC8");
     feed_line(40, b"\x02\x00\xC8");
     feed_line(42, b"\x01\x14");
@@ -338,6 +346,12 @@ fn feeds() {
     feed_line(32000, b"\x43\x00\x7C\xFC\x7F\x80");
     feed_line(32001, b"");
     feed_line(32001, b"\x41");
+}
+
+fn feeds() {
+    starred_lines();
+    depth_lines();
+    further_lines();
 }
 
 fn thens() {
