@@ -34,13 +34,20 @@ along-holds n q s (never e f g) = refused-holds n 5 s (omega arith) (omega arith
 along-holds n q s (stands st) = record { is = state-reader s (st .live .shallow); allowed = live-allows s (st .live) }
 along-holds n q s (falls q₁ b e x l y z w h k f) = refused-holds n e s h k f
 
+-- complete and a refusal are not more
+pub complete-ends : Complete ≡ More → ⊥
+complete-ends e = let x : _≡_ {A = ℕ} 0 1 = cc in omega arith
+
+pub refusal-ends : (k : ℕ) → Refusal k ≡ More → ⊥
+refusal-ends k e = let x : _≡_ {A = ℕ} 0 1 = cc in omega arith
+
 -- along the way only a state that stands goes on
 more-stands : (n : ℕ) (q : List ℕ) (s : State) → Along n q s → status s ≡ More → Stands n q s
 unfolding status
-more-stands n q s (nothing z e f) m = let y : Complete ≡ More = sym (ap status f) ∙ m in let x : _≡_ {A = ℕ} 0 1 = cc in absurd (omega arith)
-more-stands n q s (never e f g) m = let y : Refusal 5 ≡ More = sym (ap status f) ∙ m in let x : _≡_ {A = ℕ} 0 1 = cc in absurd (omega arith)
+more-stands n q s (nothing z e f) m = absurd (complete-ends (sym (ap status f) ∙ m))
+more-stands n q s (never e f g) m = absurd (refusal-ends 5 (sym (ap status f) ∙ m))
 more-stands n q s (stands st) m = st
-more-stands n q s (falls q₁ b e x l y z w h k f) m = let y : Refusal e ≡ More = sym (ap status f) ∙ m in let x : _≡_ {A = ℕ} 0 1 = cc in absurd (omega arith)
+more-stands n q s (falls q₁ b e x l y z w h k f) m = absurd (refusal-ends e (sym (ap status f) ∙ m))
 
 -- as far as the reader goes along w, from where it stands after q: through q′, with r left over, and with nothing left over where it goes on
 pub record Went (n : ℕ) (q w : List ℕ) : Type 0 where
@@ -85,8 +92,8 @@ eat-goes (b ∷ p) n q s k a m (byte, bytes) = go (status (step s b)) refl (eat-
           let z : k + 1 + length (w .through) ≡ k + suc (length (w .through)) = omega arith in
               rw (e, ← z) f,
         )
-    go Complete e rec = (stop (λ m. let y : Complete ≡ More = sym e ∙ m in let x : _≡_ {A = ℕ} 0 1 = cc in omega arith), rw e)
-    go (Refusal x) e rec = (stop (λ m. let y : Refusal x ≡ More = sym e ∙ m in let z : _≡_ {A = ℕ} 0 1 = cc in omega arith), rw e)
+    go Complete e rec = (stop (λ m. complete-ends (sym e ∙ m)), rw e)
+    go (Refusal x) e rec = (stop (λ m. refusal-ends x (sym e ∙ m)), rw e)
 
 -- ---- a feed, and a sequence of feeds
 
@@ -104,8 +111,8 @@ going s = go (status s) refl
   where
     go : (x : Answer) → status s ≡ x → Going s
     go More e = on e
-    go Complete e = off (complete e) (λ m. let y : Complete ≡ More = sym e ∙ m in let x : _≡_ {A = ℕ} 0 1 = cc in omega arith)
-    go (Refusal k) e = off (refusal k e) (λ m. let y : Refusal k ≡ More = sym e ∙ m in let x : _≡_ {A = ℕ} 0 1 = cc in omega arith)
+    go Complete e = off (complete e) (λ m. complete-ends (sym e ∙ m))
+    go (Refusal k) e = off (refusal k e) (λ m. refusal-ends k (sym e ∙ m))
 
 -- a feed of a state along the way starts from it
 fed-starts : (s : State) (p : List ℕ) (x : Answer) → Holds s → status s ≡ x → fedOf (readerOf s) p ≡ start x (readerOf s) p

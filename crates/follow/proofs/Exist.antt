@@ -180,7 +180,7 @@ module _ (st : List ℕ) (c w j v n : ℕ) (m : n ≤ 32000) (deep : length st �
           (omega arith) (omega (arith, power-pos j))
 
 -- the tests as facts
-both : (a b : Bool) → cond a b false ≡ true → (a ≡ true) × (b ≡ true)
+pub both : (a b : Bool) → cond a b false ≡ true → (a ≡ true) × (b ≡ true)
 both true b e = (refl, e)
 both false b e = let z : _≡_ {A = ℕ} 0 1 = cc in absurd (omega arith)
 

@@ -1,7 +1,7 @@
 -- The list behind 14 allows exactly the live states and the rightly refused ones: its tests are those that tell whether anything may follow.
 use Prim.Native.Nat.{ℕ, _-_, _^_, _≤_}
 use mathlib.Core.Path.{_≡_, refl, sym, ap, subst, _∙_}
-use mathlib.Core.Bool.{Bool, true, false, cond}
+use mathlib.Core.Bool.{Bool, true, false}
 use mathlib.Core.List.{List, [], _∷_}
 use native.Mathlib.Omega.{arith}
 use lib.Dec.{leb, ltb}
@@ -22,12 +22,8 @@ use Rattle.reader.specs.Asked.{Clean}
 use Rattle.reader.specs.declared.Phase.{Phase}
 use Rattle.reader.specs.declared.Phase.the-variants.{Format, Length, Content, Refused}
 use Rattle.reader.specs.declared.Reader.{Reader}
+use Rattle.follow.proofs.Exist.{both}
 use Rattle.reader.proofs.Right.{known-is, is-known}
-
--- two tests in a row
-pub both : (a b : Bool) → cond a b false ≡ true → (a ≡ true) × (b ≡ true)
-both true b e = (refl, e)
-both false b e = let z : _≡_ {A = ℕ} 0 1 = cc in absurd (omega arith)
 
 -- a phase that is no refusal
 abbrev pub Going : Phase → Type 0
