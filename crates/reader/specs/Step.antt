@@ -79,8 +79,3 @@ stepAt (Refused e) n k st b = refused n e
 
 unfoldable pub step : State → ℕ → State
 step s b = stepAt (s .phase) (s .size) (s .read + 1) (s .stack) b
-
--- all bytes of a list, one by one
-unfoldable pub steps : State → List ℕ → State
-steps s [] = s
-steps s (b ∷ bs) = steps (step s b) bs
