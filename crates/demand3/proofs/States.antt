@@ -37,7 +37,7 @@ reached-allowed n ps b =
 
 code-small : (c : ℕ) → Known c → c < 64
 code-small c (isList e) = omega arith
-code-small c (isPlain w k) = plain-small c w k
+code-small c (isPlain w k) = omega (arith, plain-small c w k)
 
 first-byte : (p : Phase) (st : List ℕ) (b : ℕ) (t : List ℕ) → LiveAt p st → RestAt p st (b ∷ t) → b ≤ 255
 first-byte Format [] b t at w = absurd (omega (arith, ap length w))

@@ -12,11 +12,11 @@ use Rattle.wire.proofs.Numbers.{number-on}
 use Rattle.item.specs.Code.{L, allowed, largest}
 use Rattle.item.specs.Item.{Item, Items, plain, list, none, more, count, good, Lengths, header, Spells, SpellsAll}
 use Rattle.item.proofs.Codes.{plain-not-list}
-use Rattle.levels.specs.Levels.{total, leaving}
+use Rattle.levels.specs.Levels.{began, total, leaving}
 use Rattle.follow.specs.Fits.{fitsItems, fitsLengths}
 use Rattle.follow.proofs.Grammar.{grown}
 use Rattle.reader.specs.State.{State, state, refused}
-use Rattle.reader.specs.Step.{known, began, whole, contentFrom, atFormat, atList, atPlain, atLength, atContent, stepAt, step}
+use Rattle.reader.specs.Step.{known, whole, contentFrom, atFormat, atList, atPlain, atLength, atContent, stepAt, step}
 use Rattle.reader.specs.Place.{Role, formatByte, lengthByte, contentByte}
 use Rattle.reader.specs.declared.Phase.{Phase}
 use Rattle.reader.specs.declared.Phase.the-variants.{Format, Length, Content, Refused}

@@ -84,17 +84,17 @@ list-code c e =
     let t = found-each (λ x. listed (x .number) (x .kind)) c codes tt tt in
     eqb→eq c L (subst (λ (n : ℕ). T (eqb n L)) (found-number c codes) (subst (λ (k : Kind). T (listed (found c codes .number) k)) e t))
 
--- a known code is below 64, so that a format byte is a byte
+-- a known code is below 63, so that a format byte is a byte with up to four length bytes too
 abbrev small : ℕ → Kind → Bool
-small n aList = ltb n 64
-small n (Plain w) = ltb n 64
+small n aList = ltb n 63
+small n (Plain w) = ltb n 63
 small n Unknown = true
 
-pub plain-small : (c w : ℕ) → kindOf c ≡ Plain w → c < 64
+pub plain-small : (c w : ℕ) → kindOf c ≡ Plain w → c < 63
 unfolding kindOf
 plain-small c w e =
     let t = found-each (λ x. small (x .number) (x .kind)) c codes tt tt in
-    ltb→lt c 64 (subst (λ (n : ℕ). T (ltb n 64)) (found-number c codes) (subst (λ (k : Kind). T (small (found c codes .number) k)) e t))
+    ltb→lt c 63 (subst (λ (n : ℕ). T (ltb n 63)) (found-number c codes) (subst (λ (k : Kind). T (small (found c codes .number) k)) e t))
 
 -- every width divides 256, so that a length whose last byte is 00 is allowed
 abbrev divides : Kind → Bool

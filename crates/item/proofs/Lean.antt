@@ -91,7 +91,7 @@ module _ (c : ℕ) (x : List ℕ) where
       go false = le-refl (largest c)
 
   -- a content, each BOOLEAN a truth, is a lean content
-  told-content : Content good c x → Content lean c (told c x)
+  pub told-content : Content good c x → Content lean c (told c x)
   told-content con =
       record {
         width = con .width;

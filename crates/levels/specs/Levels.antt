@@ -1,6 +1,7 @@
 -- The items still awaited at each open level, as an array with a depth and as a stack of counts.
-use Prim.Native.Nat.{ℕ, zero, suc, _+_, _-_}
+use Prim.Native.Nat.{ℕ, zero, suc, _+_, _-_, _≤_}
 use mathlib.Core.Bool.{Bool, cond, _&&_}
+use mathlib.Core.Path.{_≡_}
 use mathlib.Core.List.{List, [], _∷_, _++_, reverse}
 use lib.Dec.{eqb, leb, ltb}
 use lib.ListN.{length, getD, set, drop, replicate}
@@ -23,6 +24,11 @@ total (n ∷ st) = n + total st
 -- the levels whose counts these are, with 0 above them
 unfoldable pub levelsOf : List ℕ → Levels
 levelsOf st = record { awaited = reverse st ++ replicate (16 - length st) 0; level = length st }
+
+-- the innermost level awaits one item less
+abbrev pub began : List ℕ → List ℕ
+began [] = []
+began (m ∷ st) = (m - 1) ∷ st
 
 -- what is left of a stack without the innermost counts that are 0
 unfoldable pub leaving : List ℕ → List ℕ
@@ -64,3 +70,8 @@ sumOf l = total (stack l)
 -- at most 16 levels are open, and every count above them is 0
 unfoldable pub cleanOf : Levels → Bool
 cleanOf l = leb (l .level) 16 && eqb (total (drop (l .level) (l .awaited))) 0
+
+-- levels of a stack of at most 16 counts
+pub record Clean (l : Levels) : Type 0 where
+  pub is : l ≡ levelsOf (stack l)
+  pub few : l .level ≤ 16

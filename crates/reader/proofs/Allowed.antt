@@ -10,7 +10,7 @@ use borrow.Author.Tests.{le-leb, lt-ltb, leb-true, ltb-true}
 use Rattle.item.specs.Code.{kindOf}
 use Rattle.item.specs.declared.Kind.{Kind}
 use Rattle.item.specs.declared.Kind.the-variants as K
-use Rattle.levels.specs.Levels.{total, stackOf, stack, levelsOf}
+use Rattle.levels.specs.Levels.{total, stackOf, stack, levelsOf, Clean}
 use Rattle.levels.proofs.Laws.{stack-levels, stack-length, clean-levels, levels-clean}
 use Rattle.follow.proofs.Sizes.{fill-fits, fits-fill, awaited-fill, content-fill, lengths-fit}
 use Rattle.follow.proofs.Exist.{awaited-of, content-of, lengths-exist}
@@ -18,7 +18,6 @@ use Rattle.reader.specs.State.{State, stateOf, readerOf, refused}
 use Rattle.reader.specs.Step.{known}
 use Rattle.reader.specs.Feed.{isPlain, awaitsOne, someOpen, allowsPhase, levelsIn, allowsFrame, allowsEnd, allowsAt, allows}
 use Rattle.reader.specs.Rest.{RestAt, OneAwaited, SomeOpen, LiveAt, Live}
-use Rattle.reader.specs.Asked.{Clean}
 use Rattle.reader.specs.declared.Phase.{Phase}
 use Rattle.reader.specs.declared.Phase.the-variants.{Format, Length, Content, Refused}
 use Rattle.reader.specs.declared.Reader.{Reader}

@@ -7,39 +7,16 @@ use native.Mathlib.Omega.{arith}
 use lib.ListN.{length, getD}
 use mir.Syntax.{w32}
 use mir.Val.{Fits}
-use Rattle.levels.specs.Levels.{stackOf, stack, total, levelsOf, leaving, begunOf, openedOf, closedOf, sumOf}
+use Rattle.levels.specs.Levels.{stackOf, stack, total, began, begunOf, sumOf, Clean}
 use Rattle.levels.specs.declared.Levels.{Levels}
-use Rattle.levels.proofs.Laws.{stack-length, stack-levels, begun-levels, opened-levels, closed-levels}
+use Rattle.levels.proofs.Laws.{stack-levels, stack-few, began-few, begun-clean}
 use Rattle.reader.specs.State.{stateOf, readerOf}
-use Rattle.reader.specs.Step.{began, stepAt, step}
+use Rattle.reader.specs.Step.{stepAt, step}
 use Rattle.reader.specs.Feed.{levelsIn}
-use Rattle.reader.specs.Asked.{Clean, ReadyAt}
+use Rattle.reader.specs.Asked.{ReadyAt}
 use Rattle.reader.specs.declared.Phase.{Phase}
 use Rattle.reader.specs.declared.Phase.the-variants.{Length}
 use Rattle.reader.specs.declared.Reader.{Reader}
-
--- ---- levels and stacks
-
-stack-few : (l : Levels) → Clean l → length (stack l) ≤ 16
-stack-few l h = rw stack-length (h .few)
-
-began-few : (st : List ℕ) → length st ≤ 16 → length (began st) ≤ 16
-began-few [] h = h
-began-few (n ∷ st) h = h
-
-begun-of : (l : Levels) (st : List ℕ) → l ≡ levelsOf st → length st ≤ 16 → begunOf l ≡ levelsOf (began st)
-unfolding levelsOf begunOf
-begun-of l [] e h = ap begunOf e
-begun-of l (n ∷ st) e h = ap begunOf e ∙ begun-levels n st h
-
-pub begun-clean : (l : Levels) → Clean l → begunOf l ≡ levelsOf (began (stack l))
-begun-clean l h = begun-of l (stack l) (h .is) (stack-few l h)
-
-pub closed-clean : (l : Levels) → Clean l → closedOf l ≡ levelsOf (leaving (stack l))
-closed-clean l h = ap closedOf (h .is) ∙ closed-levels (stack l) (stack-few l h)
-
-pub opened-clean : (l : Levels) (v : ℕ) → Clean l → l .level < 16 → openedOf l v ≡ levelsOf (v ∷ stack l)
-opened-clean l v h k = ap (λ (x : Levels). openedOf x v) (h .is) ∙ opened-levels v (stack l) (rw stack-length k)
 
 -- ---- the items awaited are few
 

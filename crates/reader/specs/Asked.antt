@@ -1,7 +1,7 @@
 -- What the private functions ask of their arguments.
 use Prim.Native.Nat.{ℕ, _+_, _-_, _^_, _≤_, _<_}
 use mathlib.Core.Path.{_≡_}
-use Rattle.levels.specs.Levels.{stack, levelsOf}
+use Rattle.levels.specs.Levels.{Clean}
 use Rattle.levels.specs.declared.Levels.{Levels}
 use Rattle.reader.specs.Feed.{levelsIn}
 use Rattle.reader.specs.declared.Phase.{Phase}
@@ -18,11 +18,6 @@ pub record Few (m j v : ℕ) : Type 0 where
 pub record Weight (j r : ℕ) : Type 0 where
   pub is : r ≡ 256 ^ j
   pub small : r ≤ 256 ^ 3
-
--- levels of a stack of at most 16 counts
-pub record Clean (l : Levels) : Type 0 where
-  pub is : l ≡ levelsOf (stack l)
-  pub few : l .level ≤ 16
 
 -- a byte is read, the k-th of n, at an open level
 pub record Spot (n k : ℕ) (l : Levels) : Type 0 where

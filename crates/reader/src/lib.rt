@@ -1,12 +1,12 @@
 ghost use mathlib.Core.Path.{_≡_};
 ghost use mathlib.Core.Bool.{true};
 ghost use Prim.Native.Nat.{_+_, _*_, _-_, _^_, _≤_, _<_};
-ghost use Rattle.levels.specs.Levels.{stack};
+ghost use Rattle.levels.specs.Levels.{stack, Clean};
 ghost use Rattle.follow.specs.Fits.{fitsItems, fitsList, fitsPlain, fitsLengths};
 ghost use Rattle.reader.specs.State.{state, refused, fresh, stateOf, readerIn, readerOf};
 ghost use Rattle.reader.specs.Step.{known, whole, atFormat, atList, atPlain, atLength, atContent, step};
 ghost use Rattle.reader.specs.Feed.{isPlain, allowsPhase, allowsFrame, allowsEnd, allows, status, eat, fedOf};
-ghost use Rattle.reader.specs.Asked.{Few, Weight, Clean, Spot, Ready};
+ghost use Rattle.reader.specs.Asked.{Few, Weight, Spot, Ready};
 ghost use Rattle.item.specs.Code.{kindOf};
 use item::Kind;
 use levels::Levels;

@@ -4,13 +4,14 @@ use Prim.Native.Nat.{_/_, _%_}
 use mathlib.Core.Path.{_≡_, ap, _∙_}
 use native.Mathlib.Omega.{arith}
 use borrow.Author.Tests.{eq-eqb, ne-eqb}
-use Rattle.levels.specs.Levels.{stack, total}
+use Rattle.levels.specs.Levels.{stack, total, began}
 use Rattle.levels.specs.declared.Levels.{Levels}
 use Rattle.levels.proofs.Laws.{stack-length}
 use Rattle.reader.specs.State.{readerIn}
-use Rattle.reader.specs.Step.{began, atFormat}
+use Rattle.reader.specs.Step.{atFormat}
 use Rattle.reader.specs.declared.Phase.the-variants.{Length}
-use Rattle.reader.proofs.Bytes.{begun-clean, begun-sum, began-less, sum-small}
+use Rattle.levels.proofs.Laws.{begun-clean}
+use Rattle.reader.proofs.Bytes.{begun-sum, began-less, sum-small}
 use Rattle.reader.proofs.at_format.Statement.{statement}
 use Rattle.reader.proofs.at_format.Tie as tie
 

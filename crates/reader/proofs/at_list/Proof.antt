@@ -9,7 +9,8 @@ use Rattle.levels.proofs.Laws.{stack-length}
 use Rattle.reader.specs.State.{readerIn}
 use Rattle.reader.specs.Step.{atList}
 use Rattle.reader.specs.declared.Phase.the-variants.{Format}
-use Rattle.reader.proofs.Bytes.{opened-clean, sum-small}
+use Rattle.levels.proofs.Laws.{opened-clean}
+use Rattle.reader.proofs.Bytes.{sum-small}
 use Rattle.reader.proofs.at_list.Statement.{statement}
 use Rattle.reader.proofs.at_list.Tie as tie
 

@@ -1,0 +1,76 @@
+-- A whole text in one feed, N being its length, is complete or refused, never more: demand 3 leaves no byte to come.
+use Prim.Native.Nat.{ℕ, _+_, _*_, _/_, _%_, _≤_, _<_}
+use mathlib.Core.Path.{_≡_, refl, sym, ap, subst, _∙_}
+use mathlib.Core.Bool.{Bool, true, false, cond}
+use mathlib.Core.List.{List, [], _∷_, _++_, append-nil}
+use native.Mathlib.Omega.{arith}
+use lib.Dec.{eqb, ltb}
+use lib.ListN.{length, getD, length-append}
+use Rattle.wire.specs.Number.{AtMost}
+use Rattle.item.specs.Code.{L, allowed}
+use Rattle.item.specs.Item.{Tree, good, Says, Good}
+use Rattle.reader.specs.State.{stateOf, readerOf, fresh}
+use Rattle.reader.specs.Step.{known}
+use Rattle.reader.specs.Feed.{status, fedOf}
+use Rattle.reader.specs.Place.{Role, formatByte, lengthByte, contentByte, numberAt}
+use Rattle.reader.specs.declared.Answer.{Answer}
+use Rattle.reader.specs.declared.Answer.the-variants.{More, Complete, Refusal}
+use Rattle.demand3.specs.Begins.{Begins, NumberBehind}
+use Rattle.demand3.specs.Feeds.{answerTo}
+use Rattle.demand3.specs.Roles.{rolesOf}
+use Rattle.demand3.proofs.Demand3.{Verdict, goes-on, complete, before-any, at-byte, demand-3, answers, refused-iff, complete-iff}
+
+-- what a whole text is answered: complete where it is good, and otherwise refused with a number from 1 to 6
+pub data Whole (t : List ℕ) : Answer → Type 0 where
+  is-good : Good t → Whole t Complete
+  not-good : (e : ℕ) → 1 ≤ e → e ≤ 6 → (Good t → ⊥) → Whole t (Refusal e)
+
+abbrev InRange : ℕ → Type 0
+InRange n = (1 ≤ n) × (n ≤ 6)
+
+either : (b : Bool) (x y : ℕ) → InRange x → InRange y → InRange (cond b x y)
+either true x y h k = h
+either false x y h k = k
+
+number-range : (ρ : Role) (b : ℕ) → InRange (numberAt ρ b)
+unfolding numberAt
+number-range formatByte b = either (known (b / 4)) _ 1 (either (eqb (b % 4) 0) 2 5 (omega arith, omega arith) (omega arith, omega arith)) (omega arith, omega arith)
+number-range (lengthByte c d j v) b =
+    either (ltb 0 j) 5 _ (omega arith, omega arith)
+    (either (allowed c _) _ 3
+    (either (eqb c L) _ 5 (either (eqb (v * 256 + b) 0) 5 _ (omega arith, omega arith) (either (eqb d 16) 4 5 (omega arith, omega arith) (omega arith, omega arith))) (omega arith, omega arith))
+    (omega arith, omega arith))
+number-range contentByte b = (omega arith, omega arith)
+
+behind-range : (n : ℕ) (q : List ℕ) (b e : ℕ) → length q < n → Begins n q → NumberBehind n q b e → InRange e
+behind-range n q b e h (t, (w, s), l) m = subst InRange (sym (m .says t w s l (omega (arith, length-append q t)))) (number-range _ b)
+
+judged : (t w : List ℕ) (k : ℕ) (a : Answer) → w ≡ t → Verdict (length t) w k a → Whole t a
+judged t w k a same v =
+    let u = subst (λ (x : List ℕ). Verdict (length t) x k a) same v in
+    go a u u
+  where
+    go : (a : Answer) → Verdict (length t) t k a → Verdict (length t) t k a → Whole t a
+    go a v (goes-on z l b) = absurd (omega arith)
+    go a v (complete z l g) = is-good (complete-iff (length t) t k (omega arith) Complete v .0 refl .0)
+    go a v (before-any z b) = not-good 5 (omega arith) (omega arith) (λ g. b (t, g, refl))
+    go a v (at-byte q b r e z l h p x y) =
+        let i = behind-range (length t) q b e h p y in
+        not-good e (i .0) (i .1) (λ g. refused-iff (length t) t k (omega arith) (Refusal e) v .0 (e, refl) ([], subst Good (sym (append-nil t)) g, ap length (append-nil t)))
+
+-- a fresh reader is complete for N=0 alone, so that the one feed is answered by the status after it
+answered : (t : List ℕ) → AtMost 0xFF t → fedOf (readerOf (fresh (length t))) t .answer ≡ status (stateOf (fedOf (readerOf (fresh (length t))) t .reader))
+answered t b = answers (length t) [] t tt b ∙ go (status (stateOf (readerOf (fresh (length t))))) t refl (demand-3 (length t) [] tt)
+  where
+    go : (a : Answer) (u : List ℕ) → u ≡ t → Verdict (length t) [] 0 a
+        → answerTo a u (status (stateOf (fedOf (readerOf (fresh (length t))) t .reader))) ≡ status (stateOf (fedOf (readerOf (fresh (length t))) t .reader))
+    go More u e v = refl
+    go Complete [] e v = refl
+    go Complete (x ∷ u) e (complete z l g) = absurd (omega (arith, ap length e))
+    go (Refusal x) u e v = refl
+
+pub whole-text : (t : List ℕ) → AtMost 0xFF t → Whole t (fedOf (readerOf (fresh (length t))) t .answer)
+whole-text t b =
+    let e : t ++ [] ≡ t = append-nil t in
+    let v = demand-3 (length t) (t ∷ []) (subst (AtMost 0xFF) (sym e) b) in
+    subst (Whole t) (sym (answered t b)) (judged t (t ++ []) _ _ e v)

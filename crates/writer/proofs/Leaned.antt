@@ -1,0 +1,82 @@
+-- Writing the rows of a good text gives as many bytes as their sizes say: its tree has them, and no refusal is left.
+use Prim.Native.Nat.{ℕ, _*_, _-_, _%_, _≤_, _<_}
+use mathlib.Core.Path.{_≡_, refl, sym, ap, ap₂, subst, _∙_}
+use mathlib.Core.List.{List, _++_}
+use native.Mathlib.Omega.{arith}
+use borrow.Author.Tests.{eq-eqb, le-leb, lt-leb}
+use lib.ListN.{length, take, drop}
+use lib.Seq.{take-at}
+use Rattle.wire.specs.Number.{AtMost}
+use Rattle.rows.specs.Row.{rowsOf, tableOf, textOf, sizeOf}
+use Rattle.rows.specs.Rows.{rowsIn}
+use Rattle.rows.specs.declared.Row.{Row}
+use Rattle.rows.proofs.Tables.{table-length, rows-table, text-length}
+use Rattle.rows.proofs.Trees.{tree-fits}
+use Rattle.rows.proofs.Walk.{text-has}
+use Rattle.text.specs.Text.{judgedOf, readOf, tableAfter}
+use Rattle.text.specs.declared.Counted.{Counted}
+use Rattle.text.specs.declared.Counted.the-variants.{Is, Refused}
+use Rattle.text.proofs.Judged.{judged-good, judged-sound, Known, is-read}
+use Rattle.writer.specs.Writing.{rowsNumber, tableNumber, writtenOf, outAfter, leanedOf, rowsAfter}
+use Rattle.writer.proofs.OneItem.{has-taken}
+
+module _ (t : List ℕ) (bytes : AtMost 0xFF t) (good : judgedOf t ≡ 0) where
+  -- the rows' text has as many bytes as their sizes say
+  good-length : length (textOf t (rowsIn t)) ≡ sizeOf (rowsIn t)
+  good-length =
+      let (w, s) = judged-good t bytes .0 good in
+      text-length t (rowsIn t) (tree-fits w t (rowsIn t) (text-has t w s))
+
+  rows-taken : rowsNumber t (rowsIn t) ≡ 0
+  rows-taken =
+      let (w, s) = judged-good t bytes .0 good in
+      has-taken t w (rowsIn t) (text-has t w s)
+
+  table-taken : tableNumber t (tableOf (rowsIn t)) ≡ 0
+  unfolding tableNumber
+  table-taken =
+      let whole : length (tableOf (rowsIn t)) % 3 ≡ 0 = omega (arith, table-length (rowsIn t)) in
+      rw (eq-eqb (length (tableOf (rowsIn t)) % 3) 0 whole, rows-table) rows-taken
+
+  pub good-written : (room : ℕ) → sizeOf (rowsIn t) ≤ room → writtenOf (tableOf (rowsIn t)) t room ≡ Is (sizeOf (rowsIn t))
+  unfolding writtenOf
+  good-written room h =
+      rw (eq-eqb (tableNumber t (tableOf (rowsIn t))) 0 table-taken, rows-table, good-length, le-leb (sizeOf (rowsIn t)) 32000 (judged-sound t bytes good .few), le-leb (sizeOf (rowsIn t)) room h)
+
+-- what the call makes of a text that is measured, a table and an output
+module _ (t table out : List ℕ) (rows bytes : ℕ) (k : Known t rows bytes) where
+  pub too-small : length table < 3 * rows → Refused 19 ≡ leanedOf t (length table) (length out)
+  unfolding leanedOf
+  too-small h = rw (eq-eqb (judgedOf t) 0 (k .good), lt-leb (3 * length (rowsIn t)) (length table) (omega (arith, k .rows-are)))
+
+  module _ (room : 3 * rows ≤ length table) where
+    pub too-short : length out < bytes → Refused 17 ≡ leanedOf t (length table) (length out)
+    unfolding leanedOf
+    too-short h =
+        rw (eq-eqb (judgedOf t) 0 (k .good), le-leb (3 * length (rowsIn t)) (length table) (omega (arith, k .rows-are)), lt-leb (sizeOf (rowsIn t)) (length out) (omega (arith, k .bytes-are)))
+
+    module _ (fits : bytes ≤ length out) (at-most : AtMost 0xFF t) where
+      leaned : Is (sizeOf (rowsIn t)) ≡ leanedOf t (length table) (length out)
+      unfolding leanedOf
+      leaned =
+          rw (eq-eqb (judgedOf t) 0 (k .good), le-leb (3 * length (rowsIn t)) (length table) (omega (arith, k .rows-are)), le-leb (sizeOf (rowsIn t)) (length out) (omega (arith, k .bytes-are)))
+
+      -- the table that is read into, and its part that is written from
+      filled : (q : Counted) (after : List ℕ) → q ≡ readOf t (length table) → after ≡ tableAfter q t table → after ≡ tableOf (rowsIn t) ++ drop (3 * length (rowsIn t)) table
+      filled q after e f =
+          f ∙ ap (λ (x : Counted). tableAfter x t table) (e ∙ sym (is-read t rows bytes (length table) k room)) ∙ ap (λ (n : ℕ). tableOf (rowsIn t) ++ drop (3 * n) table) (k .rows-are)
+
+      front : (after : List ℕ) → after ≡ tableOf (rowsIn t) ++ drop (3 * length (rowsIn t)) table → take (3 * rows - 0) after ≡ tableOf (rowsIn t)
+      front after e =
+          let n : length (tableOf (rowsIn t)) ≡ 3 * rows - 0 = omega (arith, table-length (rowsIn t), k .rows-are) in
+          ap (take (3 * rows - 0)) e ∙ take-at (tableOf (rowsIn t)) _ (3 * rows - 0) n
+
+      pub written : (q r : Counted) (after last : List ℕ) → q ≡ readOf t (length table) → after ≡ tableAfter q t table
+          → r ≡ writtenOf (take (3 * rows - 0) after) t (length out) → last ≡ outAfter r (textOf t (rowsOf (take (3 * rows - 0) after))) out
+          → (r ≡ leanedOf t (length table) (length out)) × (after ≡ rowsAfter r t table) × (last ≡ outAfter r (textOf t (rowsIn t)) out)
+      written q r after last e f g h =
+          let full = filled q after e f in
+          let x = front after full in
+          let is : r ≡ Is (sizeOf (rowsIn t)) = g ∙ ap (λ (y : List ℕ). writtenOf y t (length out)) x ∙ good-written t at-most (k .good) (length out) (omega (arith, k .bytes-are)) in
+          let same : rowsOf (take (3 * rows - 0) after) ≡ rowsIn t = ap rowsOf x ∙ rows-table (rowsIn t) in
+          (is ∙ leaned, full ∙ sym (ap (λ (y : Counted). rowsAfter y t table) is), h ∙ ap (λ (y : List Row). outAfter r (textOf t y) out) same)

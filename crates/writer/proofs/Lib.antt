@@ -1,0 +1,4 @@
+pub mod Judged
+pub mod OneItem
+pub mod Leaned
+pub mod Determined
