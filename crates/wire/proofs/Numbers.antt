@@ -32,6 +32,10 @@ at-most-take m zero bs h = tt
 at-most-take m (suc k) [] h = tt
 at-most-take m (suc k) (b ∷ bs) (h, hs) = (h, at-most-take m k bs hs)
 
+pub at-most-append : (m : ℕ) (x y : List ℕ) → AtMost m x → AtMost m y → AtMost m (x ++ y)
+at-most-append m [] y a b = b
+at-most-append m (c ∷ x) y (a, as′) b = (a, at-most-append m x y as′ b)
+
 pub length-bytes : (w n : ℕ) → length (bytesOf w n) ≡ w
 unfolding bytesOf
 length-bytes zero n = refl
