@@ -1,17 +1,14 @@
 -- Rows of a tree and rows of its meaning are of the same meaning, row by row: the two trees have the same shape.
 use Prim.Native.Nat.{ℕ, suc}
-use mathlib.Core.Path.{_≡_, refl, sym, ap, ap₂, subst, _∙_}
+use mathlib.Core.Path.{_≡_, sym, ap, _∙_}
 use mathlib.Core.List.{List, [], _∷_, _++_}
 use lib.ListN.{length}
-use Rattle.item.specs.Code.{L}
-use Rattle.item.specs.Item.{Item, Items, plain, list, none, more, Tree, empty, one, told, meaning, meanings, meaningOf}
-use Rattle.item.proofs.Codes.{plain-not-list}
+use Rattle.item.specs.Item.{Item, Items, plain, list, none, more, Tree, empty, one, meaning, meanings, meaningOf}
 use Rattle.item.proofs.Lean.{told-length, told-told, count-meanings}
-use Rattle.rows.specs.Row.{partAt}
 use Rattle.rows.specs.Rows.{HasItem, HasAll, Has}
 use Rattle.rows.specs.declared.Row.{Row}
 use Rattle.rows.proofs.Tables.{part-length}
-use Rattle.demand2.specs.Alike.{Alike, AllAlike}
+use Rattle.demand2.specs.Alike.{AllAlike}
 
 module _ (s t : List ℕ) where
   alike-append : (u v u′ v′ : List Row) → AllAlike s u t u′ → AllAlike s v t v′ → AllAlike s (u ++ v) t (u′ ++ v′)

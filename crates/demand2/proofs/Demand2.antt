@@ -1,8 +1,8 @@
 -- Demand 2, of what the calls promise: a good text's rows are its tree's and stand for its lean form; rows that are written are a tree's, and what is written says that tree's meaning.
 use Prim.Native.Nat.{ℕ, _+_, _*_, _%_, _≤_, _<_}
-use mathlib.Core.Path.{_≡_, refl, sym, ap, ap₂, subst, _∙_}
+use mathlib.Core.Path.{_≡_, refl, sym, ap, subst, _∙_}
 use mathlib.Core.Bool.{Bool, true, false, cond}
-use mathlib.Core.List.{List, [], _∷_, _++_}
+use mathlib.Core.List.{List, [], _++_}
 use mathlib.Core.Logic.{_↔_}
 use native.Mathlib.Omega.{arith}
 use borrow.Author.Tests.{eq-eqb, ne-eqb, le-leb, lt-leb, eqb-true, leb-true}
@@ -10,21 +10,22 @@ use lib.Dec.{eqb, leb}
 use lib.ListN.{length, take, drop}
 use lib.Seq.{take-at}
 use Rattle.wire.specs.Number.{AtMost}
-use Rattle.item.specs.Code.{L}
-use Rattle.item.specs.Item.{Tree, good, lean, Says, Good, Lean, meaningOf, leanOf}
+use Rattle.item.specs.Code.{L, kindOf}
+use Rattle.item.specs.Item.{Tree, good, lean, Content, Says, Good, Lean, meaningOf, leanOf}
+use Rattle.item.proofs.Codes.{plain-not-list}
 use Rattle.item.proofs.Laws as laws
 use Rattle.item.proofs.Reading as reading
-use Rattle.rows.specs.Row.{rowsOf, tableOf, partAt, textOf, sizeOf}
+use Rattle.rows.specs.Row.{Each, rowsOf, tableOf, partAt, textOf}
 use Rattle.rows.specs.Rows.{Has, rowsOfText, rowsIn}
 use Rattle.rows.specs.declared.Row.{Row}
 use Rattle.rows.proofs.Tables.{table-length, rows-table}
-use Rattle.rows.proofs.Trees.{tree-text, tree-size, tree-spells, tree-once}
+use Rattle.rows.proofs.Trees.{tree-each, tree-text, tree-size, tree-spells, tree-once}
 use Rattle.rows.proofs.Walk.{text-walked, text-has, good-sound}
-use Rattle.text.specs.Text.{judgedOf, readOf, tableAfter}
+use Rattle.text.specs.Text.{judgedOf, readOf, partNumber, partOf}
 use Rattle.text.specs.declared.Counted.{Counted}
 use Rattle.text.specs.declared.Counted.the-variants.{Is, Refused}
 use Rattle.text.proofs.Judged.{judged-good, judged-range}
-use Rattle.writer.specs.Writing.{rowsNumber, tableNumber, usedOf, writtenOf, outAfter, leanedOf, rowsAfter}
+use Rattle.writer.specs.Writing.{rowsNumber, tableNumber, usedOf, writtenOf, outAfter, leanedOf}
 use Rattle.writer.proofs.OneItem.{has-taken, taken-has}
 use Rattle.demand2.specs.Alike.{AllAlike}
 use Rattle.demand2.specs.Calls.{read, write, writeLean}
@@ -66,6 +67,25 @@ module _ (table s out : List ℕ) (w : Tree) (whole : length table % 3 ≡ 0) (h
       let e : writtenOf table s (length out) ≡ Refused 17 = used ∙ rw (le-leb (length (leanOf w)) 32000 few, lt-leb (length (leanOf w)) (length out) less) in
       rw e
 
+-- ---- a row's content
+
+-- of a list's row 9 and nothing; of another the content that the row names
+pub record Part (t : List ℕ) (r : Row) : Type 0 where
+  pub of-list : r .code ≡ L → (partNumber t r ≡ 9) × (partOf t r ≡ [])
+  pub of-other : (r .code ≡ L → ⊥) → (partNumber t r ≡ 0) × (partOf t r ≡ partAt t r)
+
+list-part : {t : List ℕ} (r : Row) → r .code ≡ L → Part t r
+unfolding partNumber partOf kindOf
+list-part r e = record { of-list = λ _. (rw e, rw e); of-other = λ n. absurd (n e) }
+
+plain-part : {t : List ℕ} (r : Row) → r .place + r .length ≤ length t → Content good (r .code) (partAt t r) → Part t r
+unfolding partNumber partOf
+plain-part {t} r within con =
+    record {
+      of-list = λ e. absurd (plain-not-list (r .code) (con .width) (con .known) e);
+      of-other = λ _. (rw (con .known, le-leb (r .place + r .length) (length t) within), rw (con .known, le-leb (r .place + r .length) (length t) within));
+    }
+
 -- ---- 5. what is read are the definition's rows, and 1. read, then write
 
 module _ (t : List ℕ) (w : Tree) (s : Says good w t) where
@@ -91,6 +111,10 @@ module _ (t : List ℕ) (w : Tree) (s : Says good w t) where
     where
       go : length table < 3 * length (rowsIn t) → read t table ≡ (Refused 19, table)
       go small = rw (eq-eqb (judgedOf t) 0 judged, lt-leb (3 * length (rowsIn t)) (length table) small)
+
+  -- The content of each of these rows that is no list's can be had as a part of the text, and is the item's; a list's is 9.
+  pub parts-there : Each (Part t) (rowsOfText w t s)
+  parts-there = subst (Each (Part t)) rows-are (tree-each t (Part t) list-part plain-part w (rowsIn t) (text-has t w s))
 
   -- what is left out of a table that a read filled are the rows
   filled : (table : List ℕ) → 3 * length (rowsOfText w t s) ≤ length table → take (3 * length (rowsOfText w t s)) (read t table .1) ≡ tableOf (rowsOfText w t s)

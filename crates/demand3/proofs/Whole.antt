@@ -5,10 +5,10 @@ use mathlib.Core.Bool.{Bool, true, false, cond}
 use mathlib.Core.List.{List, [], _∷_, _++_, append-nil}
 use native.Mathlib.Omega.{arith}
 use lib.Dec.{eqb, ltb}
-use lib.ListN.{length, getD, length-append}
+use lib.ListN.{length, length-append}
 use Rattle.wire.specs.Number.{AtMost}
 use Rattle.item.specs.Code.{L, allowed}
-use Rattle.item.specs.Item.{Tree, good, Says, Good}
+use Rattle.item.specs.Item.{good, Good}
 use Rattle.reader.specs.State.{stateOf, readerOf, fresh}
 use Rattle.reader.specs.Step.{known}
 use Rattle.reader.specs.Feed.{status, fedOf}
@@ -17,7 +17,6 @@ use Rattle.reader.specs.declared.Answer.{Answer}
 use Rattle.reader.specs.declared.Answer.the-variants.{More, Complete, Refusal}
 use Rattle.demand3.specs.Begins.{Begins, NumberBehind}
 use Rattle.demand3.specs.Feeds.{answerTo}
-use Rattle.demand3.specs.Roles.{rolesOf}
 use Rattle.demand3.proofs.Demand3.{Verdict, goes-on, complete, before-any, at-byte, demand-3, answers, refused-iff, complete-iff}
 
 -- what a whole text is answered: complete where it is good, and otherwise refused with a number from 1 to 6

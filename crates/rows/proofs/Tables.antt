@@ -14,8 +14,8 @@ use Rattle.item.specs.Item.{fewest, told, leanHeader}
 use Rattle.item.proofs.Fewest.{counted}
 use Rattle.item.proofs.Lean.{told-length}
 use Rattle.rows.specs.declared.Row.{Row}
-use Rattle.rows.specs.Row.{row, rowsOf, tableOf, partAt, contentSize, rowText, textOf, rowSize, sizeOf}
-use Rattle.rows.specs.Asked.{AllFit}
+use Rattle.rows.specs.Row.{row, Each, rowsOf, tableOf, partAt, contentSize, rowText, textOf, rowSize, sizeOf}
+use Rattle.rows.specs.Asked.{Fits}
 
 -- the row that a table's number i begins
 abbrev pub rowFrom : List ℕ → ℕ → Row
@@ -111,7 +111,7 @@ row-size c n = go (eqb c L)
     go false = omega (arith, counted n .four)
 
 -- rows that fit have a lean text as long as their sizes say
-pub text-length : (s : List ℕ) (rs : List Row) → AllFit s rs → length (textOf s rs) ≡ sizeOf rs
+pub text-length : (s : List ℕ) (rs : List Row) → Each (Fits s) rs → length (textOf s rs) ≡ sizeOf rs
 unfolding textOf sizeOf
 text-length s [] f = refl
 text-length s (r ∷ rs) (f, fs) =

@@ -4,17 +4,16 @@ use mathlib.Core.Path.{_≡_, refl, sym, ap, ap₂, subst, _∙_}
 use mathlib.Core.List.{List, [], _∷_, _++_, append-assoc, append-nil}
 use native.Mathlib.Nat.{suc-inj}
 use native.Mathlib.Omega.{arith}
-use lib.ListN.{length, length-append, length-take, length-drop}
+use lib.ListN.{length, length-append}
 use Rattle.wire.specs.Number.{bytesOf}
-use Rattle.wire.proofs.Numbers.{length-bytes}
 use Rattle.item.specs.Code.{L}
-use Rattle.item.specs.Item.{Item, Items, plain, list, none, more, count, Tree, empty, one, lean, fewest, Lengths, Spells, SpellsAll, Says, told, meaning, meanings, meaningOf, leanHeader, leanItem, leanItems, leanOf}
+use Rattle.item.specs.Item.{Item, Items, plain, list, none, more, count, Tree, empty, one, good, lean, fewest, Content, Lengths, Spells, SpellsAll, Says, told, meaning, meanings, meaningOf, leanHeader, leanItem, leanItems, leanOf}
 use Rattle.item.proofs.Codes.{plain-not-list, plain-small}
 use Rattle.item.proofs.Fewest.{lean-lengths}
 use Rattle.item.proofs.Lean.{told-length, told-content, count-meanings}
-use Rattle.rows.specs.Row.{partAt, contentSize, rowText, textOf, rowSize, sizeOf}
+use Rattle.rows.specs.Row.{Each, partAt, rowText, textOf, rowSize, sizeOf}
 use Rattle.rows.specs.Rows.{HasItem, HasAll, Has}
-use Rattle.rows.specs.Asked.{AllFit}
+use Rattle.rows.specs.Asked.{Fits}
 use Rattle.rows.specs.declared.Row.{Row}
 use Rattle.rows.proofs.Tables.{list-text, plain-text, part-length, text-length}
 
@@ -47,24 +46,31 @@ tree-text (one i) s rs h = item-text i s 1 rs h
 
 -- ---- a tree's rows can be written, in as many bytes as their sizes say
 
-fit-append : (s : List ℕ) (u v : List Row) → AllFit s u → AllFit s v → AllFit s (u ++ v)
-fit-append s [] v f g = g
-fit-append s (r ∷ u) v (f, fs) g = (f, fit-append s u v fs g)
+each-append : (P : Row → Type 0) (u v : List Row) → Each P u → Each P v → Each P (u ++ v)
+each-append P [] v f g = g
+each-append P (r ∷ u) v (f, fs) g = (f, each-append P u v fs g)
 
-mutual
-  item-fits : (i : Item) (s : List ℕ) (d : ℕ) (rs : List Row) → HasItem s d i rs → AllFit s rs
-  item-fits (plain c x) s d rs (r, e, q, within, is, con, deep) =
-      subst (AllFit s) (sym e) (record { small = rw q (plain-small c (con .width) (con .known)); within = λ _. within }, tt)
-  item-fits (list is) s d rs (r, ms, e, q, n, all, deep) =
-      subst (AllFit s) (sym e) (record { small = rw q (omega arith); within = λ z. absurd (z q) }, items-fit is s (suc d) ms all)
+-- what holds of every list's row, and of every other row with its good content, holds of each row of a tree
+module _ (s : List ℕ) (P : Row → Type 0) (of-list : (r : Row) → r .code ≡ L → P r)
+    (of-plain : (r : Row) → r .place + r .length ≤ length s → Content good (r .code) (partAt s r) → P r) where
+  mutual
+    item-each : (i : Item) (d : ℕ) (rs : List Row) → HasItem s d i rs → Each P rs
+    item-each (plain c x) d rs (r, e, q, within, is, con, deep) =
+        subst (Each P) (sym e) (of-plain r within (subst (Content good (r .code)) is (subst (λ (k : ℕ). Content good k x) (sym q) con)), tt)
+    item-each (list is) d rs (r, ms, e, q, n, all, deep) = subst (Each P) (sym e) (of-list r q, items-each is (suc d) ms all)
 
-  items-fit : (is : Items) (s : List ℕ) (d : ℕ) (rs : List Row) → HasAll s d is rs → AllFit s rs
-  items-fit none s d rs e = subst (AllFit s) (sym e) tt
-  items-fit (more i is) s d rs (u, v, e, h, all) = subst (AllFit s) (sym e) (fit-append s u v (item-fits i s d u h) (items-fit is s d v all))
+    items-each : (is : Items) (d : ℕ) (rs : List Row) → HasAll s d is rs → Each P rs
+    items-each none d rs e = subst (Each P) (sym e) tt
+    items-each (more i is) d rs (u, v, e, h, all) = subst (Each P) (sym e) (each-append P u v (item-each i d u h) (items-each is d v all))
 
-pub tree-fits : (w : Tree) (s : List ℕ) (rs : List Row) → Has s w rs → AllFit s rs
-tree-fits empty s rs e = subst (AllFit s) (sym e) tt
-tree-fits (one i) s rs h = item-fits i s 1 rs h
+  pub tree-each : (w : Tree) (rs : List Row) → Has s w rs → Each P rs
+  tree-each empty rs e = subst (Each P) (sym e) tt
+  tree-each (one i) rs h = item-each i 1 rs h
+
+pub tree-fits : (w : Tree) (s : List ℕ) (rs : List Row) → Has s w rs → Each (Fits s) rs
+tree-fits w s rs h =
+    tree-each s (Fits s) (λ r q. record { small = omega arith; within = λ z. absurd (z q) })
+    (λ r within con. record { small = plain-small (r .code) (con .width) (con .known); within = λ _. within }) w rs h
 
 pub tree-size : (w : Tree) (s : List ℕ) (rs : List Row) → Has s w rs → sizeOf rs ≡ length (leanOf w)
 tree-size w s rs h = sym (text-length s rs (tree-fits w s rs h)) ∙ ap length (tree-text w s rs h)

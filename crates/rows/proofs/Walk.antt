@@ -9,11 +9,11 @@ use lib.Seq.{take-at, drop-at}
 use Rattle.wire.specs.Number.{numberOf}
 use Rattle.item.specs.Code.{L, kindOf}
 use Rattle.item.specs.declared.Kind.the-variants.{Plain}
-use Rattle.item.specs.Item.{Item, Items, plain, list, none, more, count, Tree, empty, one, good, Lengths, header, Spells, SpellsAll, Says, leanOf}
+use Rattle.item.specs.Item.{Item, Items, plain, list, none, more, count, Tree, empty, one, good, Lengths, header, Spells, SpellsAll, Says}
 use Rattle.item.proofs.Codes.{plain-not-list}
 use Rattle.item.proofs.Laws.{shortest}
-use Rattle.rows.specs.Row.{row, partAt, contentSize, sizeOf}
-use Rattle.rows.specs.Rows.{HasItem, HasAll, Has, itemRows, itemsRows, rowsOfText, rowAt, ownBytes, rowsFrom, rowsIn}
+use Rattle.rows.specs.Row.{row, contentSize}
+use Rattle.rows.specs.Rows.{HasItem, HasAll, Has, itemRows, itemsRows, rowsOfText, ownBytes, rowsFrom, rowsIn}
 use Rattle.rows.specs.Asked.{Ends, Sound}
 use Rattle.rows.specs.declared.Row.{Row}
 use Rattle.rows.proofs.Trees.{tree-size}

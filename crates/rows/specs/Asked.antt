@@ -24,7 +24,3 @@ pub record Sound (t : List ℕ) : Type 0 where
 pub record Fits (s : List ℕ) (r : Row) : Type 0 where
   pub small : r .code < 63
   pub within : (r .code ≡ L → ⊥) → r .place + r .length ≤ length s
-
-abbrev pub AllFit : List ℕ → List Row → Type 0
-AllFit s [] = Unit {0}
-AllFit s (r ∷ rs) = Fits s r × AllFit s rs

@@ -1,22 +1,17 @@
 -- Row by row: the levels behind each, and what the number of a row makes of the number of all.
-use Prim.Native.Nat.{ℕ, _+_, _%_, _<_, _≤_}
-use mathlib.Core.Path.{_≡_, refl, sym, ap, ap₂, _∙_}
+use Prim.Native.Nat.{ℕ, _<_, _≤_}
+use mathlib.Core.Path.{_≡_, refl, sym, ap, _∙_}
 use mathlib.Core.Bool.{Bool, true, false, cond}
 use mathlib.Core.List.{List, [], _∷_}
 use native.Mathlib.Omega.{arith}
-use borrow.Author.Tests.{eq-eqb, ne-eqb, eqb-true, eqb-false, leb-true}
+use borrow.Author.Tests.{eq-eqb, ne-eqb, eqb-true, eqb-false}
 use lib.Dec.{eqb}
-use lib.ListN.{length, length-append}
-use Rattle.item.specs.Code.{L, kindOf, allowed, largest}
-use Rattle.item.specs.declared.Kind.{Kind}
-use Rattle.item.specs.declared.Kind.the-variants as K
-use Rattle.item.proofs.Codes.{plain-small, list-code}
+use lib.ListN.{length}
+use Rattle.item.specs.Code.{L, kindOf}
 use Rattle.levels.specs.Levels.{began, leaving}
 use Rattle.levels.proofs.Laws.{leaving-length}
 use Rattle.rows.specs.declared.Row.{Row}
-use Rattle.rows.specs.Row.{rowsOf, partAt, inside, rowText, textOf, sizeOf}
-use Rattle.rows.proofs.Tables.{row-length}
-use Rattle.writer.specs.Writing.{atMost, listNumber, contentNumber, numberAs, rowNumber, levelsBehind, endNumber, judgedFrom, rowsNumber, tableNumber}
+use Rattle.writer.specs.Writing.{listNumber, numberAs, rowNumber, levelsBehind, endNumber, judgedFrom}
 
 -- ---- a list's row
 

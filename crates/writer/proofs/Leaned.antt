@@ -1,6 +1,6 @@
 -- Writing the rows of a good text gives as many bytes as their sizes say: its tree has them, and no refusal is left.
 use Prim.Native.Nat.{ℕ, _*_, _-_, _%_, _≤_, _<_}
-use mathlib.Core.Path.{_≡_, refl, sym, ap, ap₂, subst, _∙_}
+use mathlib.Core.Path.{_≡_, sym, ap, _∙_}
 use mathlib.Core.List.{List, _++_}
 use native.Mathlib.Omega.{arith}
 use borrow.Author.Tests.{eq-eqb, le-leb, lt-leb}

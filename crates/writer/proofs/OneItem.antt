@@ -5,7 +5,7 @@ use mathlib.Core.Bool.{Bool, true, false, cond}
 use mathlib.Core.List.{List, [], _∷_, _++_, append-assoc, append-nil}
 use mathlib.Core.Logic.{_↔_}
 use native.Mathlib.Omega.{arith}
-use borrow.Author.Tests.{eq-eqb, ne-eqb, le-leb, eqb-true, eqb-false, leb-true}
+use borrow.Author.Tests.{le-leb, eqb-true, eqb-false, leb-true}
 use lib.Dec.{eqb, leb}
 use lib.ListN.{length}
 use Rattle.wire.specs.Number.{AtMost}
@@ -16,10 +16,10 @@ use Rattle.item.specs.declared.Kind.the-variants as K
 use Rattle.item.proofs.Codes.{plain-not-list, list-code}
 use Rattle.levels.specs.Levels.{began, leaving}
 use Rattle.levels.proofs.Laws.{leaving-some}
-use Rattle.rows.specs.Row.{rowsOf, partAt, inside}
+use Rattle.rows.specs.Row.{Each, rowsOf, partAt, inside}
 use Rattle.rows.specs.Rows.{HasItem, HasAll, Has}
 use Rattle.rows.specs.declared.Row.{Row}
-use Rattle.rows.specs.Asked.{AllFit}
+use Rattle.rows.specs.Asked.{Fits}
 use Rattle.rows.proofs.Tables.{part-length}
 use Rattle.rows.proofs.Trees.{tree-fits}
 use Rattle.writer.specs.Writing.{atMost, listNumber, contentNumber, numberAs, rowNumber, levelsBehind, judgedFrom, rowsNumber, tableNumber}
@@ -229,10 +229,10 @@ module _ (s : List ℕ) where
   rows-of-a-tree rs = (taken-has rs, λ (w, h). has-taken w rs h)
 
   -- so that they can be written
-  pub table-fits : (table : List ℕ) → tableNumber s table ≡ 0 → AllFit s (rowsOf table)
+  pub table-fits : (table : List ℕ) → tableNumber s table ≡ 0 → Each (Fits s) (rowsOf table)
   unfolding tableNumber
   table-fits table z = go (eqb (length table % 3) 0) z
     where
-      go : (b : Bool) → cond b (rowsNumber s (rowsOf table)) 15 ≡ 0 → AllFit s (rowsOf table)
+      go : (b : Bool) → cond b (rowsNumber s (rowsOf table)) 15 ≡ 0 → Each (Fits s) (rowsOf table)
       go true y = let (w, h) = taken-has (rowsOf table) y in tree-fits w s (rowsOf table) h
       go false y = absurd (omega arith)

@@ -8,9 +8,9 @@ ghost use lib.Dec.{eqb};
 ghost use Rattle.item.specs.Code.{L, BOOLEAN};
 ghost use Rattle.item.specs.Item.{truth, told, leanHeader};
 ghost use Rattle.levels.specs.Levels.{stack, levelsOf, Clean};
-ghost use Rattle.rows.specs.Row.{row, rowsOf, rowText, textOf, sizeOf};
+ghost use Rattle.rows.specs.Row.{row, Each, rowsOf, rowText, textOf, sizeOf};
 ghost use Rattle.rows.specs.Rows.{rowsIn};
-ghost use Rattle.rows.specs.Asked.{Fits, AllFit};
+ghost use Rattle.rows.specs.Asked.{Fits};
 ghost use Rattle.writer.specs.Writing.{atMost, listNumber, contentNumber, rowNumber, levelsBehind, judgedFrom, tableNumber, writtenOf, outAfter, leanedOf, rowsAfter};
 use item::Kind;
 use levels::Levels;
@@ -215,7 +215,7 @@ fn put_row(out: &mut [u8], at: usize, content: &[u8], r: Row) -> usize
 
 // Writes the rows' lean texts end to end from place 0.
 fn put_rows(table: &[u32], content: &[u8], out: &mut [u8])
-    requires { ⌜ AllFit (now content) (rowsOf (now table)) ⌝ }
+    requires { ⌜ Each (Fits (now content)) (rowsOf (now table)) ⌝ }
     requires { ⌜ length (textOf (now content) (rowsOf (now table))) ≤ length (now out) ⌝ }
     ensures { λ _. ⌜ now (out .exit) ≡ sets (now (out .entry)) 0 (textOf (now (content .entry)) (rowsOf (now (table .entry)))) ⌝ }
 {

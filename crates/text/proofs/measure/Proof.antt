@@ -1,6 +1,6 @@
 -- A text whose number is 0 is good, so that the walk over it is sound.
 use borrow.Author.Needs.{needs}
-use mathlib.Core.Path.{_≡_, sym, _∙_}
+use mathlib.Core.Path.{sym, _∙_}
 use borrow.Author.Tests.{eq-eqb, ne-eqb}
 use Rattle.text.specs.Text.{measuredOf}
 use Rattle.text.proofs.Judged.{all-bytes, judged-sound}

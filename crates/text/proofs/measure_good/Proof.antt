@@ -1,14 +1,12 @@
 -- The rows and the bytes counted so far, and those of the walk that is left, are those of the whole text.
 use borrow.Author.Needs.{needs}
 use Prim.Native.Nat.{_+_, _-_, _≤_}
-use mathlib.Core.Path.{_≡_, refl, sym, ap, ap₂, _∙_}
-use mathlib.Core.List.{List}
+use mathlib.Core.Path.{_≡_, refl, ap, ap₂}
 use native.Mathlib.Omega.{arith}
-use lib.ListN.{length, getD, drop}
-use Rattle.rows.specs.Row.{contentSize, sizeOf}
-use Rattle.rows.specs.Rows.{rowAt, rowsFrom, rowsIn}
+use lib.ListN.{length, drop}
+use Rattle.rows.specs.Row.{sizeOf}
+use Rattle.rows.specs.Rows.{rowsFrom, rowsIn}
 use Rattle.rows.specs.Asked.{Ends}
-use Rattle.rows.specs.declared.Row.{Row}
 use Rattle.text.specs.declared.Measured.the-variants.{Are}
 use Rattle.text.proofs.Turn.{Turn, turn, rows-end}
 use Rattle.text.proofs.measure_good.Statement.{statement}

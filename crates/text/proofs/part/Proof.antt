@@ -1,16 +1,16 @@
 -- The part that the row names where its number is 0, which puts it within the text, and else the empty one.
 use borrow.Author.Needs.{needs}
-use Prim.Native.Nat.{ℕ, _+_, _-_, _≤_}
-use mathlib.Core.Path.{_≡_, refl, sym, ap, _∙_}
-use mathlib.Core.Bool.{Bool, true, false, cond}
+use Prim.Native.Nat.{ℕ, _+_, _≤_}
+use mathlib.Core.Path.{_≡_, refl, sym, _∙_}
+use mathlib.Core.Bool.{Bool, true, false}
 use mathlib.Core.List.{List}
 use native.Mathlib.Omega.{arith}
 use borrow.Author.Tests.{eq-eqb, ne-eqb, leb-true}
-use lib.ListN.{length, take, drop}
+use lib.ListN.{length}
 use Rattle.item.specs.Code.{kindOf}
 use Rattle.item.specs.declared.Kind.{Kind}
 use Rattle.item.specs.declared.Kind.the-variants as K
-use Rattle.rows.specs.Row.{partAt, inside}
+use Rattle.rows.specs.Row.{inside}
 use Rattle.rows.specs.declared.Row.{Row}
 use Rattle.rows.proofs.Tables.{part-between}
 use Rattle.text.specs.Text.{partNumberAs, partNumber, partOf}

@@ -1,8 +1,7 @@
 -- One line of the definition for each kind.
 use borrow.Author.Needs.{needs}
-use mathlib.Core.Path.{_≡_, sym, _∙_}
+use mathlib.Core.Path.{sym, _∙_}
 use borrow.Author.Tests.{le-leb, lt-leb}
-use Rattle.item.specs.Code.{kindOf}
 use Rattle.text.specs.Text.{partNumber}
 use Rattle.text.proofs.part_number.Statement.{statement}
 use Rattle.text.proofs.part_number.Tie as tie

@@ -1,19 +1,16 @@
 -- The number, or 19 where three numbers a row do not fit, or the rows and behind them the table as it was.
 use borrow.Author.Needs.{needs}
-use Prim.Native.Nat.{ℕ, _*_, _≤_, _<_}
+use Prim.Native.Nat.{ℕ, _*_}
 use mathlib.Core.Path.{_≡_, refl, sym, ap, _∙_}
-use mathlib.Core.List.{List}
 use native.Mathlib.Omega.{arith}
-use borrow.Author.Tests.{eq-eqb, ne-eqb, le-leb, lt-leb}
-use lib.ListN.{length}
+use borrow.Author.Tests.{ne-eqb}
 use Rattle.wire.proofs.Stores.{part-sets}
 use Rattle.rows.specs.Row.{tableOf}
 use Rattle.rows.specs.Rows.{rowsIn}
 use Rattle.rows.proofs.Tables.{table-length}
 use Rattle.rows.proofs.Trees.{rows-fewer}
-use Rattle.text.specs.Text.{judgedOf, readOf, tableAfter}
+use Rattle.text.specs.Text.{readOf}
 use Rattle.rows.specs.Asked.{Sound}
-use Rattle.text.specs.declared.Counted.the-variants.{Is, Refused}
 use Rattle.text.specs.declared.Measured.the-variants.{Are}
 use Rattle.text.proofs.Judged.{all-bytes, judged-sound, Known, measured-are, measured-refused, too-small, is-read}
 use Rattle.text.proofs.read.Statement.{statement}

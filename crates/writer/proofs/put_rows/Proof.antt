@@ -7,9 +7,9 @@ use lib.ListN.{length, drop, length-append}
 use lib.Seq.{sets, length-sets}
 use Rattle.wire.proofs.Stores.{sets-append}
 use Rattle.rows.specs.declared.Row.{Row}
-use Rattle.rows.specs.Row.{rowsOf, rowText, textOf}
+use Rattle.rows.specs.Row.{Each, rowsOf, rowText, textOf}
 use Rattle.rows.proofs.Tables.{rows-more, rows-end}
-use Rattle.rows.specs.Asked.{Fits, AllFit}
+use Rattle.rows.specs.Asked.{Fits}
 use Rattle.writer.proofs.put_rows.Statement.{statement}
 use Rattle.writer.proofs.put_rows.Tie as tie
 
@@ -17,7 +17,7 @@ abbrev Inv-loop : tie.InvT-loop
 Inv-loop table content out₀ i₀ at₀ out i at =
     (i ≤ length table)
     × (length out ≡ length out₀)
-    × AllFit content (rowsOf (drop i table))
+    × Each (Fits content) (rowsOf (drop i table))
     × (at + length (textOf content (rowsOf (drop i table))) ≤ length out₀)
     × (sets out at (textOf content (rowsOf (drop i table))) ≡ sets out₀ 0 (textOf content (rowsOf table)))
 
@@ -32,11 +32,11 @@ next : (c : tie.After-row-in Inv-loop μ-loop)
     → rowsOf (drop (c .before .before .loop .i) (start c .args .table .now)) ≡ c .row-in .result ∷ rowsOf (drop (c .before .before .loop .i + 3) (start c .args .table .now))
 next c = rows-more (start c .args .table .now) (c .before .before .loop .i) (c .row-in .result) (c .row-in .ensures) (omega arith)
 
-turn : (s : List ℕ) {all rs : List Row} {r : Row} → all ≡ r ∷ rs → AllFit s all
-    → Fits s r × AllFit s rs × (length (textOf s all) ≡ length (rowText s r) + length (textOf s rs))
+turn : (s : List ℕ) {all rs : List Row} {r : Row} → all ≡ r ∷ rs → Each (Fits s) all
+    → Fits s r × Each (Fits s) rs × (length (textOf s all) ≡ length (rowText s r) + length (textOf s rs))
 unfolding textOf
 turn s {rs = rs} {r = r} e f =
-    let g = subst (AllFit s) e f in
+    let g = subst (Each (Fits s)) e f in
     (g .0, g .1, ap (λ (x : List Row). length (textOf s x)) e ∙ length-append (rowText s r) (textOf s rs))
 
 stored : (out last s : List ℕ) (at to : ℕ) (r : Row) (rs all : List Row) → all ≡ r ∷ rs → last ≡ sets out at (rowText s r) → to ≡ at + length (rowText s r)

@@ -1,11 +1,11 @@
 -- Each refusal is the definition's, before anything is stored; rows that are judged well have a text as long as their sizes say, and it is stored from place 0.
 use borrow.Author.Needs.{needs}
-use Prim.Native.Nat.{ℕ, _+_, _≤_, min}
+use Prim.Native.Nat.{ℕ, _≤_, min}
 use mathlib.Core.Path.{_≡_, refl, sym, ap, _∙_}
-use mathlib.Core.List.{List, _++_}
+use mathlib.Core.List.{List}
 use native.Mathlib.Omega.{arith}
 use borrow.Author.Tests.{eq-eqb, ne-eqb, le-leb, lt-leb}
-use lib.ListN.{length, drop}
+use lib.ListN.{length}
 use Rattle.wire.proofs.Stores.{part-sets}
 use Rattle.rows.specs.Row.{rowsOf, textOf}
 use Rattle.text.specs.declared.Counted.the-variants.{Is}
