@@ -1,2 +1,3 @@
 pub mod Alike
 pub mod Demand2
+pub mod Vectors

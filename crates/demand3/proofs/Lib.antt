@@ -5,4 +5,3 @@ pub mod Demand3
 pub mod Whole
 pub mod States
 pub mod Cutting
-pub mod Vectors

@@ -1,9 +1,9 @@
--- Document 01's starred byte lines, as one statement over one table: the checker computes each answer, and each lean form from the tree that the bytes spell.
-use Prim.Native.Nat.{ℕ}
-use mathlib.Core.Path.{_≡_, refl}
+-- Document 01's starred byte lines, as one statement over one table: the checker computes each answer, and each lean form from the tree that the bytes spell, which is what the call writes.
+use Prim.Native.Nat.{ℕ, _≤_}
+use mathlib.Core.Path.{_≡_, refl, ap, _∙_}
 use mathlib.Core.List.{List, [], _∷_, _++_}
 use native.Mathlib.Omega.{arith}
-use lib.ListN.{length-append}
+use lib.ListN.{length, drop, length-append}
 use Rattle.wire.specs.Number.{numberOf, bytesOf}
 use Rattle.item.specs.Code.{A, BOOLEAN, kindOf, allowed, largest}
 use Rattle.item.specs.Item.{plain, Tree, one, good, fewest, Lengths, Content, header, Says, told, leanItem, leanOf}
@@ -14,6 +14,11 @@ use Rattle.reader.specs.Step.{known, atFormat, atList, atPlain, atLength, atCon
 use Rattle.reader.specs.Feed.{allowsPhase, allowsFrame, allowsEnd, allows, status, eat, fedOf}
 use Rattle.reader.specs.declared.Answer.{Answer}
 use Rattle.reader.specs.declared.Answer.the-variants.{Complete, Refusal}
+use Rattle.rows.specs.Rows.{itemRows}
+use Rattle.text.specs.declared.Counted.{Counted}
+use Rattle.text.specs.declared.Counted.the-variants.{Is}
+use Rattle.demand2.specs.Calls.{writeLean}
+use Rattle.demand2.proofs.Demand2.{in-one-call}
 
 -- the lean form of a good text, where the document gives it: the tree that the text spells, and the lean bytes
 data LeanForm : Type 0 where
@@ -55,7 +60,9 @@ table =
 
 abbrev LeanRight : LeanForm → List ℕ → Type 0
 LeanRight not-given b = Unit {0}
-LeanRight (given w l) b = Says good w b × (leanOf w ≡ l)
+LeanRight (given w l) b =
+    Says good w b × (leanOf w ≡ l)
+    × ((table out : List ℕ) → 3 ≤ length table → length l ≤ length out → (writeLean b table out .0 ≡ Is (length l)) × (writeLean b table out .2 ≡ l ++ drop (length l) out))
 
 -- a fresh reader that is told N and fed the bytes
 abbrev Right : Line → Type 0
@@ -68,9 +75,20 @@ abbrev Each : List Line → Type 0
 Each [] = Unit {0}
 Each (l ∷ ls) = Right l × Each ls
 
--- an item of one content byte, under length bytes that say 1
-one-byte : (c b : ℕ) (ls : List ℕ) → Lengths good ls 1 → Content good c (b ∷ []) → Says good (one (plain c (b ∷ []))) (header c ls ++ (b ∷ []))
-one-byte c b ls lens con = ((ls, refl, lens, con, omega arith), omega (arith, lens .few, length-append (header c ls) (b ∷ [])))
+-- an item of one content byte, under length bytes that say 1, and its lean form
+one-byte : (c b : ℕ) (ls l : List ℕ) → Lengths good ls 1 → Content good c (b ∷ []) → leanOf (one (plain c (b ∷ []))) ≡ l
+    → LeanRight (given (one (plain c (b ∷ []))) l) (header c ls ++ (b ∷ []))
+unfolding itemRows
+one-byte c b ls l lens con e =
+    let w = one (plain c (b ∷ [])) in
+    let t = header c ls ++ (b ∷ []) in
+    let s : Says good w t = ((ls, refl, lens, con, omega arith), omega (arith, lens .few, length-append (header c ls) (b ∷ []))) in (
+      s,
+      e,
+      λ table out room fits.
+          let q = in-one-call t w s table out (omega arith) (omega (arith, ap length e)) in
+          (ap (λ (x : Counted × List ℕ × List ℕ). x .0) q ∙ ap (λ (y : List ℕ). Is (length y)) e, ap (λ (x : Counted × List ℕ × List ℕ). x .2) q ∙ ap (λ (y : List ℕ). y ++ drop (length y) out) e),
+    )
 
 starred : Each table
 unfolding numberOf bytesOf kindOf allowed largest fewest told leanItem total leaving stackOf levelsOf cleanOf fitsItems fitsList fitsPlain fitsLengths fresh known atFormat atList atPlain atLength atContent stepAt step allowsPhase allowsFrame allowsEnd allows status eat fedOf
@@ -104,23 +122,19 @@ starred = (
                             (
                               refl,
                               refl,
-                              (
-                                one-byte A 0x41 (0x00 ∷ 0x00 ∷ 0x01 ∷ [])
-                                    (record { some = omega arith; few = omega arith; bytes = (omega arith, (omega arith, (omega arith, tt))); says = refl; form = tt })
-                                    (record { width = 1; known = refl; whole = refl; bytes = (omega arith, tt) }),
-                                refl,
-                              ),
+                              one-byte A 0x41 (0x00 ∷ 0x00 ∷ 0x01 ∷ []) (0x41 ∷ 0x01 ∷ 0x41 ∷ [])
+                                  (record { some = omega arith; few = omega arith; bytes = (omega arith, (omega arith, (omega arith, tt))); says = refl; form = tt })
+                                  (record { width = 1; known = refl; whole = refl; bytes = (omega arith, tt) })
+                                  refl,
                             ),
                             (
                               (
                                 refl,
                                 refl,
-                                (
-                                  one-byte BOOLEAN 0x07 (0x01 ∷ [])
-                                      (record { some = omega arith; few = omega arith; bytes = (omega arith, tt); says = refl; form = tt })
-                                      (record { width = 1; known = refl; whole = refl; bytes = (omega arith, tt) }),
-                                  refl,
-                                ),
+                                one-byte BOOLEAN 0x07 (0x01 ∷ []) (0x25 ∷ 0x01 ∷ 0x01 ∷ [])
+                                    (record { some = omega arith; few = omega arith; bytes = (omega arith, tt); says = refl; form = tt })
+                                    (record { width = 1; known = refl; whole = refl; bytes = (omega arith, tt) })
+                                    refl,
                               ),
                               tt,
                             ),
