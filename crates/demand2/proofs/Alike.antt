@@ -1,6 +1,6 @@
 -- Rows of a tree and rows of its meaning are of the same meaning, row by row: the two trees have the same shape.
 use Prim.Native.Nat.{ℕ, suc}
-use mathlib.Core.Path.{_≡_, sym, ap, _∙_}
+use mathlib.Core.Path.{_≡_, refl, sym, ap, _∙_}
 use mathlib.Core.List.{List, [], _∷_, _++_}
 use lib.ListN.{length}
 use Rattle.item.specs.Item.{Item, Items, plain, list, none, more, Tree, empty, one, meaning, meanings, meaningOf}
@@ -47,3 +47,9 @@ module _ (s t : List ℕ) where
   pub tree-alike : (w : Tree) (rs qs : List Row) → Has s w rs → Has t (meaningOf w) qs → AllAlike s rs t qs
   tree-alike empty rs qs e e′ = both rs [] qs [] e e′ tt
   tree-alike (one i) rs qs h h′ = item-alike i 1 rs qs h h′
+
+  pub alike-many : (rs qs : List Row) → AllAlike s rs t qs → length rs ≡ length qs
+  alike-many [] [] a = refl
+  alike-many [] (q ∷ qs) a = absurd a
+  alike-many (r ∷ rs) [] a = absurd a
+  alike-many (r ∷ rs) (q ∷ qs) (a, as′) = ap suc (alike-many rs qs as′)

@@ -27,11 +27,12 @@ use Rattle.text.specs.declared.Counted.the-variants.{Is, Refused}
 use Rattle.text.proofs.Judged.{judged-good, judged-range}
 use Rattle.writer.specs.Writing.{rowsNumber, tableNumber, usedOf, writtenOf, outAfter, leanedOf}
 use Rattle.writer.proofs.OneItem.{has-taken, taken-has}
+use Rattle.writer.proofs.Leaned.{tree-written}
 use Rattle.demand2.specs.Alike.{AllAlike}
 use Rattle.demand2.specs.Calls.{read, write, writeLean}
-use Rattle.demand2.proofs.Alike.{tree-alike}
+use Rattle.demand2.proofs.Alike.{tree-alike, alike-many}
 
--- ---- 3. rows and trees
+-- ---- rows and trees
 
 -- ROWS ARE NONE OR ONE WHOLE ITEM, WITH GOOD CONTENTS, EXACTLY WHEN SOME TREE HAS THEM, and no two trees have the same rows.
 pub rows-of-a-tree : (s : List ℕ) (rs : List Row) → (rowsNumber s rs ≡ 0) ↔ ((w : Tree) × Has s w rs)
@@ -40,16 +41,11 @@ rows-of-a-tree s rs = (taken-has s rs, λ (w, h). has-taken s w rs h)
 pub one-tree : (s : List ℕ) (w w′ : Tree) (rs : List Row) → Has s w rs → Has s w′ rs → w ≡ w′
 one-tree = tree-once
 
--- ---- the writer takes what a tree has
-
-table-taken : (table s : List ℕ) (w : Tree) → length table % 3 ≡ 0 → Has s w (rowsOf table) → tableNumber s table ≡ 0
-unfolding tableNumber
-table-taken table s w z h = rw (eq-eqb (length table % 3) 0 z) (has-taken s w (rowsOf table) h)
+-- ---- what is written
 
 module _ (table s out : List ℕ) (w : Tree) (whole : length table % 3 ≡ 0) (has : Has s w (rowsOf table)) where
   used : writtenOf table s (length out) ≡ usedOf (length (leanOf w)) (length out)
-  unfolding writtenOf
-  used = rw (eq-eqb (tableNumber s table) 0 (table-taken table s w whole has)) (ap (λ (x : List ℕ). usedOf (length x) (length out)) (tree-text w s (rowsOf table) has))
+  used = tree-written table s (length out) w whole has
 
   -- Rows of a tree are written as its lean form, and the bytes used are that form's; 18 where it is above 32,000 bytes, then 17 where the output is shorter.
   pub writes-lean : length (leanOf w) ≤ 32000 → length (leanOf w) ≤ length out → write table s out ≡ (Is (length (leanOf w)), leanOf w ++ drop (length (leanOf w)) out)
@@ -86,7 +82,7 @@ plain-part {t} r within con =
       of-other = λ _. (rw (con .known, le-leb (r .place + r .length) (length t) within), rw (con .known, le-leb (r .place + r .length) (length t) within));
     }
 
--- ---- 5. what is read are the definition's rows, and 1. read, then write
+-- ---- what is read
 
 module _ (t : List ℕ) (w : Tree) (s : Says good w t) where
   judged : judgedOf t ≡ 0
@@ -116,7 +112,9 @@ module _ (t : List ℕ) (w : Tree) (s : Says good w t) where
   pub parts-there : Each (Part t) (rowsOfText w t s)
   parts-there = subst (Each (Part t)) rows-are (tree-each t (Part t) list-part plain-part w (rowsIn t) (text-has t w s))
 
-  -- what is left out of a table that a read filled are the rows
+  -- ---- read, then write
+
+  -- a table that was read into begins with the rows
   filled : (table : List ℕ) → 3 * length (rowsOfText w t s) ≤ length table → take (3 * length (rowsOfText w t s)) (read t table .1) ≡ tableOf (rowsOfText w t s)
   filled table room =
       ap (λ (x : Counted × List ℕ). take (3 * length (rowsOfText w t s)) (x .1)) (reads-rows table room)
@@ -158,7 +156,7 @@ not-good t table out b h =
     let z : judgedOf t ≡ 0 → ⊥ = λ e. h (judged-good t b .0 e) in
     (judgedOf t, omega arith, judged-range t b, rw (ne-eqb (judgedOf t) 0 z), rw (ne-eqb (judgedOf t) 0 z))
 
--- ---- 2. write, then read
+-- ---- write, then read
 
 -- what the answer tells
 record Answered (table s : List ℕ) (n : ℕ) : Type 0 where
@@ -198,6 +196,7 @@ pub record Back (table s out : List ℕ) (n : ℕ) : Type 0 where
   pub rows : Has text (meaningOf tree) (rowsOfText (meaningOf tree) text is-good)
   pub same-tree : meaningOf (meaningOf tree) ≡ meaningOf tree
   pub same-rows : AllAlike s (rowsOf table) text (rowsOfText (meaningOf tree) text is-good)
+  pub as-many : length (rowsOf table) ≡ length (rowsOfText (meaningOf tree) text is-good)
 
 -- WRITE, THEN READ.
 pub write-then-read : (table s out : List ℕ) (n : ℕ) → write table s out .0 ≡ Is n → Back table s out n
@@ -219,10 +218,11 @@ write-then-read table s out n e =
       is-good = g;
       rows = back;
       same-tree = laws.lean-meaning-own x (meaningOf w) l;
-      same-rows = tree-alike s x w (rowsOf table) _ h back;
+      same-rows = tree-alike s x w (rowsOf table) (rowsOfText (meaningOf w) x g) h back;
+      as-many = alike-many s x (rowsOf table) (rowsOfText (meaningOf w) x g) (tree-alike s x w (rowsOf table) (rowsOfText (meaningOf w) x g) h back);
     }
 
--- ---- 4. equal meanings
+-- ---- equal meanings
 
 -- EQUAL MEANINGS, EQUAL LEAN BYTES, and the other way round: of texts, and of rows that can be written.
 pub equal-texts : (t t′ : List ℕ) (w w′ : Tree) → Says good w t → Says good w′ t′ → (meaningOf w ≡ meaningOf w′) ↔ (leanOf w ≡ leanOf w′)

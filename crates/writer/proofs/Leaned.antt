@@ -1,6 +1,6 @@
--- Writing the rows of a good text gives as many bytes as their sizes say: its tree has them, and no refusal is left.
+-- Rows that a tree has are written as its lean form; a good text's are, and no refusal is left, since its lean form is no longer than it.
 use Prim.Native.Nat.{ℕ, _*_, _-_, _%_, _≤_, _<_}
-use mathlib.Core.Path.{_≡_, sym, ap, _∙_}
+use mathlib.Core.Path.{_≡_, sym, ap, subst, _∙_}
 use mathlib.Core.List.{List, _++_}
 use native.Mathlib.Omega.{arith}
 use borrow.Author.Tests.{eq-eqb, le-leb, lt-leb}
@@ -8,40 +8,37 @@ use lib.ListN.{length, take, drop}
 use lib.Seq.{take-at}
 use Rattle.wire.specs.Number.{AtMost}
 use Rattle.rows.specs.Row.{rowsOf, tableOf, textOf, sizeOf}
-use Rattle.rows.specs.Rows.{rowsIn}
+use Rattle.item.specs.Item.{Tree, leanOf}
+use Rattle.rows.specs.Rows.{Has, rowsIn}
 use Rattle.rows.specs.declared.Row.{Row}
-use Rattle.rows.proofs.Tables.{table-length, rows-table, text-length}
-use Rattle.rows.proofs.Trees.{tree-fits}
+use Rattle.rows.proofs.Tables.{table-length, rows-table}
+use Rattle.rows.proofs.Trees.{tree-text, tree-size}
 use Rattle.rows.proofs.Walk.{text-has}
 use Rattle.text.specs.Text.{judgedOf, readOf, tableAfter}
 use Rattle.text.specs.declared.Counted.{Counted}
 use Rattle.text.specs.declared.Counted.the-variants.{Is, Refused}
 use Rattle.text.proofs.Judged.{judged-good, judged-sound, Known, is-read}
-use Rattle.writer.specs.Writing.{rowsNumber, tableNumber, writtenOf, outAfter, leanedOf, rowsAfter}
+use Rattle.writer.specs.Writing.{tableNumber, usedOf, writtenOf, outAfter, leanedOf, rowsAfter}
 use Rattle.writer.proofs.OneItem.{has-taken}
 
-module _ (t : List ℕ) (bytes : AtMost 0xFF t) (good : judgedOf t ≡ 0) where
-  -- the rows' text has as many bytes as their sizes say
-  good-length : length (textOf t (rowsIn t)) ≡ sizeOf (rowsIn t)
-  good-length =
-      let (w, s) = judged-good t bytes .0 good in
-      text-length t (rowsIn t) (tree-fits w t (rowsIn t) (text-has t w s))
+table-taken : (table s : List ℕ) (w : Tree) → length table % 3 ≡ 0 → Has s w (rowsOf table) → tableNumber s table ≡ 0
+unfolding tableNumber
+table-taken table s w z h = rw (eq-eqb (length table % 3) 0 z) (has-taken s w (rowsOf table) h)
 
-  rows-taken : rowsNumber t (rowsIn t) ≡ 0
-  rows-taken =
-      let (w, s) = judged-good t bytes .0 good in
-      has-taken t w (rowsIn t) (text-has t w s)
+-- the rows of a tree are written as its lean form, where that is not too long
+pub tree-written : (table s : List ℕ) (room : ℕ) (w : Tree) → length table % 3 ≡ 0 → Has s w (rowsOf table) → writtenOf table s room ≡ usedOf (length (leanOf w)) room
+unfolding writtenOf
+tree-written table s room w z h =
+    rw (eq-eqb (tableNumber s table) 0 (table-taken table s w z h)) (ap (λ (x : List ℕ). usedOf (length x) room) (tree-text w s (rowsOf table) h))
 
-  table-taken : tableNumber t (tableOf (rowsIn t)) ≡ 0
-  unfolding tableNumber
-  table-taken =
-      let whole : length (tableOf (rowsIn t)) % 3 ≡ 0 = omega (arith, table-length (rowsIn t)) in
-      rw (eq-eqb (length (tableOf (rowsIn t)) % 3) 0 whole, rows-table) rows-taken
-
-  pub good-written : (room : ℕ) → sizeOf (rowsIn t) ≤ room → writtenOf (tableOf (rowsIn t)) t room ≡ Is (sizeOf (rowsIn t))
-  unfolding writtenOf
-  good-written room h =
-      rw (eq-eqb (tableNumber t (tableOf (rowsIn t))) 0 table-taken, rows-table, good-length, le-leb (sizeOf (rowsIn t)) 32000 (judged-sound t bytes good .few), le-leb (sizeOf (rowsIn t)) room h)
+-- and those of a good text are, since its lean form is no longer than it
+good-written : (t : List ℕ) → AtMost 0xFF t → judgedOf t ≡ 0 → (room : ℕ) → sizeOf (rowsIn t) ≤ room → writtenOf (tableOf (rowsIn t)) t room ≡ Is (sizeOf (rowsIn t))
+good-written t bytes good room h =
+    let (w, s) = judged-good t bytes .0 good in
+    let has = text-has t w s in
+    let n = tree-size w t (rowsIn t) has in
+    tree-written (tableOf (rowsIn t)) t room w (omega (arith, table-length (rowsIn t))) (subst (Has t w) (sym (rows-table (rowsIn t))) has)
+    ∙ rw (← n, le-leb (sizeOf (rowsIn t)) 32000 (judged-sound t bytes good .few), le-leb (sizeOf (rowsIn t)) room h)
 
 -- what the call makes of a text that is measured, a table and an output
 module _ (t table out : List ℕ) (rows bytes : ℕ) (k : Known t rows bytes) where

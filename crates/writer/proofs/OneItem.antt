@@ -3,7 +3,6 @@ use Prim.Native.Nat.{ℕ, zero, suc, _+_, _-_, _%_, _≤_, _<_}
 use mathlib.Core.Path.{_≡_, refl, sym, ap, ap₂, subst, _∙_}
 use mathlib.Core.Bool.{Bool, true, false, cond}
 use mathlib.Core.List.{List, [], _∷_, _++_, append-assoc, append-nil}
-use mathlib.Core.Logic.{_↔_}
 use native.Mathlib.Omega.{arith}
 use borrow.Author.Tests.{le-leb, eqb-true, eqb-false, leb-true}
 use lib.Dec.{eqb, leb}
@@ -223,10 +222,6 @@ module _ (s : List ℕ) where
   taken-has (r ∷ rs) z =
       let (i, h) = one-item (r ∷ rs) (runs (r ∷ rs) (1 ∷ []) (omega arith) (omega arith) z) in
       (one i, h)
-
-  -- Rows are none or one whole item, with good contents, exactly when some tree has them.
-  pub rows-of-a-tree : (rs : List Row) → (rowsNumber s rs ≡ 0) ↔ ((w : Tree) × Has s w rs)
-  rows-of-a-tree rs = (taken-has rs, λ (w, h). has-taken w rs h)
 
   -- so that they can be written
   pub table-fits : (table : List ℕ) → tableNumber s table ≡ 0 → Each (Fits s) (rowsOf table)
