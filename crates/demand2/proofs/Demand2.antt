@@ -22,10 +22,11 @@ use Rattle.rows.proofs.Tables.{table-length, rows-table}
 use Rattle.rows.proofs.Trees.{tree-each, tree-text, tree-size, tree-spells, tree-once}
 use Rattle.rows.proofs.Walk.{text-walked, text-has, good-sound}
 use Rattle.text.specs.Text.{judgedOf, readOf, partNumber, partOf}
-use Rattle.text.specs.declared.Counted.{Counted}
-use Rattle.text.specs.declared.Counted.the-variants.{Is, Refused}
+use Rattle.wire.specs.declared.Counted.{Counted}
+use Rattle.wire.specs.declared.Counted.the-variants.{Is, Refused}
 use Rattle.text.proofs.Judged.{judged-good, judged-range}
-use Rattle.writer.specs.Writing.{rowsNumber, tableNumber, usedOf, writtenOf, outAfter, leanedOf}
+use Rattle.writer.specs.Writing.{rowsNumber, tableNumber, usedOf, writtenOf, leanedOf}
+use Rattle.wire.specs.Lent.{outAfter}
 use Rattle.writer.proofs.OneItem.{has-taken, taken-has}
 use Rattle.writer.proofs.Leaned.{tree-written}
 use Rattle.demand2.specs.Alike.{AllAlike}

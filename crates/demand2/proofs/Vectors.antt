@@ -15,8 +15,8 @@ use Rattle.reader.specs.Feed.{allowsPhase, allowsFrame, allowsEnd, allows, stat
 use Rattle.reader.specs.declared.Answer.{Answer}
 use Rattle.reader.specs.declared.Answer.the-variants.{Complete, Refusal}
 use Rattle.rows.specs.Rows.{itemRows}
-use Rattle.text.specs.declared.Counted.{Counted}
-use Rattle.text.specs.declared.Counted.the-variants.{Is}
+use Rattle.wire.specs.declared.Counted.{Counted}
+use Rattle.wire.specs.declared.Counted.the-variants.{Is}
 use Rattle.demand2.specs.Calls.{writeLean}
 use Rattle.demand2.proofs.Demand2.{in-one-call}
 

@@ -5,8 +5,9 @@ use Prim.Native.Nat.{ℕ}
 use Rattle.rows.specs.Row.{rowsOf, textOf}
 use Rattle.rows.specs.Rows.{rowsIn}
 use Rattle.text.specs.Text.{readOf, tableAfter}
-use Rattle.text.specs.declared.Counted.{Counted}
-use Rattle.writer.specs.Writing.{writtenOf, outAfter, leanedOf, rowsAfter}
+use Rattle.wire.specs.declared.Counted.{Counted}
+use Rattle.writer.specs.Writing.{writtenOf, leanedOf, rowsAfter}
+use Rattle.wire.specs.Lent.{outAfter}
 
 -- a text read into a table: the answer, the table
 abbrev pub read : List ℕ → List ℕ → Counted × List ℕ

@@ -1,7 +1,7 @@
 -- Wherever the tests hold something may follow: zero bytes, items of two bytes, and one longer item make up any number of bytes.
 use Prim.Native.Nat.{ℕ, zero, suc, _+_, _*_, _-_, _%_, _^_, _≤_, _<_}
 use mathlib.Core.Path.{_≡_, refl, sym, ap, subst, _∙_}
-use mathlib.Core.Bool.{Bool, true, false, cond, not}
+use mathlib.Core.Bool.{true, false, cond, not}
 use mathlib.Core.List.{List, [], _∷_, _++_, append-nil}
 use mathlib.Core.Logic.{_⊎_, inl, inr}
 use native.Mathlib.Nat.{mod-one, mod-eq-of-lt, pow-suc, le-mul-of-pos-right}
@@ -10,6 +10,7 @@ use lib.Dec.{eqb, leb, ltb}
 use lib.ListN.{length, length-append, replicate, length-replicate}
 use borrow.Author.Tests.{eq-eqb, ne-eqb, eqb-true, eqb-false, leb-true, ltb-true, not-true}
 use Rattle.wire.specs.Number.{numberOf, bytesOf, AtMost}
+use Rattle.wire.proofs.Choice.{both}
 use Rattle.wire.proofs.Numbers.{number-bytes, length-bytes, bytes-at-most, power-pos}
 use Rattle.item.specs.Code.{L, kindOf, allowed, largest}
 use Rattle.item.specs.Item.{Item, plain, none, more, good, Content, Spells}
@@ -180,10 +181,6 @@ module _ (st : List ℕ) (c w j v n : ℕ) (m : n ≤ 32000) (deep : length st �
           (omega arith) (omega (arith, power-pos j))
 
 -- the tests as facts
-pub both : (a b : Bool) → cond a b false ≡ true → (a ≡ true) × (b ≡ true)
-both true b e = (refl, e)
-both false b e = let z : _≡_ {A = ℕ} 0 1 = cc in absurd (omega arith)
-
 pub list-fit : (d n m j v : ℕ) → fitsList d n m j v ≡ true → FitList d n m j v
 unfolding fitsList
 list-fit d n m j v e = go (same? d 16) (same? (m + v) 0) (both (leb j n) _ e .1)

@@ -2,7 +2,7 @@
 use mathlib.Core.Path.{_≡_, sym, ap, _∙_}
 use denote.Ref.{now}
 use Rattle.text.specs.Text.{tableAfter}
-use Rattle.text.specs.declared.Counted.{Counted}
+use Rattle.wire.specs.declared.Counted.{Counted}
 use Rattle.text.proofs.judge.Reads as judge-reads
 use Rattle.text.proofs.measure.Reads as measure-reads
 use Rattle.text.proofs.read.Reads as read-reads

@@ -23,7 +23,7 @@ use Rattle.rows.proofs.Walk.{good-sound}
 use Rattle.rows.specs.Row.{sizeOf}
 use Rattle.rows.specs.Rows.{rowsIn}
 use Rattle.text.specs.Text.{numberIn, judgedOf, measuredOf, readOf}
-use Rattle.text.specs.declared.Counted.the-variants.{Is, Refused}
+use Rattle.wire.specs.declared.Counted.the-variants.{Is, Refused}
 use Rattle.text.specs.declared.Measured.the-variants as M
 
 -- the number of what the whole feed answers

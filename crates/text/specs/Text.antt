@@ -14,8 +14,8 @@ use Rattle.reader.specs.declared.Answer.the-variants.{More, Complete, Refusal}
 use Rattle.rows.specs.Row.{tableOf, partAt, inside, sizeOf}
 use Rattle.rows.specs.Rows.{rowsIn}
 use Rattle.rows.specs.declared.Row.{Row}
-use Rattle.text.specs.declared.Counted.{Counted}
-use Rattle.text.specs.declared.Counted.the-variants.{Is, Refused}
+use Rattle.wire.specs.declared.Counted.{Counted}
+use Rattle.wire.specs.declared.Counted.the-variants.{Is, Refused}
 use Rattle.text.specs.declared.Measured.{Measured}
 use Rattle.text.specs.declared.Measured.the-variants as M
 

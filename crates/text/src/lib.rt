@@ -11,6 +11,7 @@ ghost use Rattle.text.specs.Asked.{HeaderAt};
 use item::Kind;
 use reader::Answer;
 use rows::Row;
+use wire::Counted;
 
 // A text's number by the fed reader, with N its length; 0 for a good text.
 pub fn judge(text: &[u8]) -> u32
@@ -113,12 +114,6 @@ fn fill(text: &[u8], table: &mut [u32])
         i += 3;
         p = behind(r);
     }
-}
-
-// How many there are, or the refusal's number.
-pub enum Counted {
-    Is(usize),
-    Refused(u32),
 }
 
 // Reads a whole text into a table of rows, three numbers a row, and answers how many rows.

@@ -1,7 +1,7 @@
 use libc::STDOUT_FILENO;
 use rows::Row;
-use text::Counted;
 use text::Measured;
+use wire::Counted;
 
 fn put(s: &[u8]) {
     io::write_all(STDOUT_FILENO, s);

@@ -3,7 +3,14 @@ ghost use Prim.Native.Nat.{_<_, _≤_, _*_, _^_};
 ghost use lib.ListN.{length, take};
 ghost use lib.Dec.{ltb};
 ghost use Rattle.wire.specs.Number.{numberOf, bytesOf};
+ghost use Rattle.wire.specs.Lent.{copied};
 ghost use Rattle.wire.specs.Twos.{halfOf, signedOf, unsignedOf};
+
+// How many there are, or the refusal's number: what calls answer that count rows or bytes.
+pub enum Counted {
+    Is(usize),
+    Refused(u32),
+}
 
 // The number that at most eight bytes stand for, high byte first.
 fn number_of_few(s: &[u8]) -> u64
@@ -40,6 +47,17 @@ pub fn put(s: &mut [u8], n: u64)
         i -= 1;
         s[i] = (left % 256) as u8;
         left = left / 256;
+    }
+}
+
+// Copies src over dst, as far as dst goes.
+pub fn copy(dst: &mut [u8], src: &[u8])
+    ensures { λ _. ⌜ now (dst .exit) ≡ copied (now (dst .entry)) (now (src .entry)) ⌝ }
+{
+    let mut i: usize = 0;
+    while i < dst.len() && i < src.len() {
+        dst[i] = src[i];
+        i += 1;
     }
 }
 

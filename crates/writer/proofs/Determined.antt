@@ -1,10 +1,11 @@
 -- Two outcomes that a promise permits for the same call are equal: each is the one that the definition gives.
 use mathlib.Core.Path.{_≡_, sym, ap, _∙_}
 use denote.Ref.{now}
-use Rattle.text.specs.declared.Counted.{Counted}
+use Rattle.wire.specs.declared.Counted.{Counted}
 use Rattle.rows.specs.Row.{rowsOf, textOf}
 use Rattle.rows.specs.Rows.{rowsIn}
-use Rattle.writer.specs.Writing.{outAfter, rowsAfter}
+use Rattle.writer.specs.Writing.{rowsAfter}
+use Rattle.wire.specs.Lent.{outAfter}
 use Rattle.writer.proofs.write.Reads as write-reads
 use Rattle.writer.proofs.write_lean.Reads as write-lean-reads
 

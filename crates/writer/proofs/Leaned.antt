@@ -15,10 +15,11 @@ use Rattle.rows.proofs.Tables.{table-length, rows-table}
 use Rattle.rows.proofs.Trees.{tree-text, tree-size}
 use Rattle.rows.proofs.Walk.{text-has}
 use Rattle.text.specs.Text.{judgedOf, readOf, tableAfter}
-use Rattle.text.specs.declared.Counted.{Counted}
-use Rattle.text.specs.declared.Counted.the-variants.{Is, Refused}
+use Rattle.wire.specs.declared.Counted.{Counted}
+use Rattle.wire.specs.declared.Counted.the-variants.{Is, Refused}
 use Rattle.text.proofs.Judged.{judged-good, judged-sound, Known, is-read}
-use Rattle.writer.specs.Writing.{tableNumber, usedOf, writtenOf, outAfter, leanedOf, rowsAfter}
+use Rattle.writer.specs.Writing.{tableNumber, usedOf, writtenOf, leanedOf, rowsAfter}
+use Rattle.wire.specs.Lent.{outAfter}
 use Rattle.writer.proofs.OneItem.{has-taken}
 
 table-taken : (table s : List ℕ) (w : Tree) → length table % 3 ≡ 0 → Has s w (rowsOf table) → tableNumber s table ≡ 0

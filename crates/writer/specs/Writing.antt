@@ -12,8 +12,8 @@ use Rattle.rows.specs.Row.{rowsOf, tableOf, partAt, inside, textOf, sizeOf}
 use Rattle.rows.specs.Rows.{rowsIn}
 use Rattle.rows.specs.declared.Row.{Row}
 use Rattle.text.specs.Text.{judgedOf}
-use Rattle.text.specs.declared.Counted.{Counted}
-use Rattle.text.specs.declared.Counted.the-variants.{Is, Refused}
+use Rattle.wire.specs.declared.Counted.{Counted}
+use Rattle.wire.specs.declared.Counted.the-variants.{Is, Refused}
 
 -- each of these bytes is at most m
 abbrev pub atMost : ℕ → List ℕ → Bool
@@ -80,11 +80,6 @@ usedOf n room = cond (leb n 32000) (cond (leb n room) (Is n) (Refused 17)) (Refu
 unfoldable pub writtenOf : List ℕ → List ℕ → ℕ → Counted
 writtenOf table s room =
     cond (eqb (tableNumber s table) 0) (usedOf (length (textOf s (rowsOf table))) room) (Refused (tableNumber s table))
-
--- the output afterwards: the text, the rest stays; as it was where the call is refused
-abbrev pub outAfter : Counted → List ℕ → List ℕ → List ℕ
-outAfter (Is n) text out = text ++ drop n out
-outAfter (Refused k) text out = out
 
 -- ---- a text's lean form
 

@@ -11,12 +11,13 @@ ghost use Rattle.levels.specs.Levels.{stack, levelsOf, Clean};
 ghost use Rattle.rows.specs.Row.{row, Each, rowsOf, rowText, textOf, sizeOf};
 ghost use Rattle.rows.specs.Rows.{rowsIn};
 ghost use Rattle.rows.specs.Asked.{Fits};
-ghost use Rattle.writer.specs.Writing.{atMost, listNumber, contentNumber, rowNumber, levelsBehind, judgedFrom, tableNumber, writtenOf, outAfter, leanedOf, rowsAfter};
+ghost use Rattle.writer.specs.Writing.{atMost, listNumber, contentNumber, rowNumber, levelsBehind, judgedFrom, tableNumber, writtenOf, leanedOf, rowsAfter};
+ghost use Rattle.wire.specs.Lent.{outAfter};
 use item::Kind;
 use levels::Levels;
 use rows::Row;
-use text::Counted;
 use text::Measured;
+use wire::Counted;
 
 // The bytes that a text may have.
 const LONGEST: usize = 32_000;

@@ -8,7 +8,7 @@ use borrow.Author.Tests.{eq-eqb, ne-eqb, le-leb, lt-leb}
 use lib.ListN.{length}
 use Rattle.wire.proofs.Stores.{part-sets}
 use Rattle.rows.specs.Row.{rowsOf, textOf}
-use Rattle.text.specs.declared.Counted.the-variants.{Is}
+use Rattle.wire.specs.declared.Counted.the-variants.{Is}
 use Rattle.writer.specs.Writing.{tableNumber, writtenOf}
 use Rattle.rows.proofs.Tables.{text-length}
 use Rattle.writer.proofs.OneItem.{table-fits}

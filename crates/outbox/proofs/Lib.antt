@@ -1,0 +1,4 @@
+pub mod Fronts
+pub mod Held
+pub mod Moved
+pub mod Determined

@@ -1,0 +1,111 @@
+-- The tests are the definition's; where all are passed the frame covers the part that was lent for it.
+use borrow.Author.Needs.{needs}
+use Prim.Native.Nat.{ℕ, _+_, _-_, _≤_}
+use mathlib.Core.Path.{_≡_, refl, sym, ap, ap₂, _∙_}
+use mathlib.Core.Bool.{true}
+use mathlib.Core.List.{List, _++_}
+use native.Mathlib.Omega.{arith}
+use borrow.Author.Tests.{eq-eqb, ne-eqb, le-leb, lt-leb, not-true, not-false}
+use lib.ListN.{length, take, drop, length-take, length-drop}
+use lib.Seq.{drop-drop}
+use Rattle.wire.specs.Lent.{copied}
+use Rattle.wire.proofs.Stores.{copied-all}
+use Rattle.outbox.specs.Outbox.{holds, appendOf}
+use Rattle.outbox.proofs.Held.{held}
+use Rattle.outbox.proofs.append.Statement.{statement}
+use Rattle.outbox.proofs.append.Tie as tie
+
+-- the frame behind the used bytes, when the part lent for it has come back
+placed : (s f x : List ℕ) (used : ℕ) → used + length f ≤ length s → x ≡ copied (take (used + length f - used) (drop used s)) f
+    → take used s ++ (x ++ drop (used + length f - used) (drop used s)) ≡ take used s ++ (f ++ drop (used + length f) s)
+placed s f x used h e =
+    let size = used + length f - used in
+    let z : used + size ≡ used + length f = omega arith in
+    let c = copied-all (take size (drop used s)) f (omega (arith, length-take size (drop used s), length-drop used s)) in
+    ap₂ (λ (y t : List ℕ). take used s ++ (y ++ t)) (e ∙ c) (drop-drop size used s ∙ ap (λ (k : ℕ). drop k s) z)
+
+-- the outbox holds whole frames
+whole : (c : tie.Else1) → holds (c .before .before .before .before .before .args .outbox .now) (c .before .before .before .before .before .args .used) ≡ true
+whole c = sym (c .before .is-whole .ensures) ∙ not-false _ (c .if1 .left)
+
+is-whole-requires : tie.Need-is-whole-requires
+is-whole-requires c κs = search needs
+
+same-length : tie.Need-same-length
+same-length c = search needs
+
+returns : tie.Need-returns
+unfolding appendOf
+returns c = (rw (sym (c .before .is-whole .ensures) ∙ not-true _ (c .if1 .taken)), refl)
+
+frame-number-requires : tie.Need-frame-number-requires
+frame-number-requires c κs = search needs
+
+same-length-2 : tie.Need-same-length-2
+same-length-2 c = search needs
+
+returns-2 : tie.Need-returns-2
+unfolding appendOf
+returns-2 c = (rw (whole (c .before .before), ← c .before .frame-number .ensures, ne-eqb _ _ (c .if2 .taken)), refl)
+
+sub-if3 : tie.Need-sub-if3
+sub-if3 c = held _ _ (whole (c .before .before)) .0
+
+same-length-3 : tie.Need-same-length-3
+same-length-3 c = search needs
+
+returns-3 : tie.Need-returns-3
+unfolding appendOf
+returns-3 c =
+    let n = c .before .before in
+    (rw (whole (n .before), ← n .frame-number .ensures, eq-eqb _ _ (c .before .if2 .left), lt-leb _ _ (c .if3 .taken)), refl)
+
+add-end : tie.Need-add-end
+add-end c = search needs
+
+sub-copy : tie.Need-sub-copy
+sub-copy c = search needs
+
+part-copy-start : tie.Need-part-copy-start
+part-copy-start c = search needs
+
+part-copy-end : tie.Need-part-copy-end
+part-copy-end c = omega (arith, held _ _ (whole (c .before .before .before)) .0, c .if3 .left)
+
+copy-requires : tie.Need-copy-requires
+copy-requires c κs = search needs
+
+same-length-4 : tie.Need-same-length-4
+same-length-4 c = search needs
+
+returns-4 : tie.Need-returns-4
+unfolding appendOf
+returns-4 c =
+    let t = c .before .before .before .before in
+    let n = t .before .before in
+    let w = whole (n .before) in
+    let a = n .before .before .before .before .before .before .args in (
+      rw (w, ← n .frame-number .ensures, eq-eqb _ _ (t .before .if2 .left), le-leb _ _ (t .if3 .left)),
+      placed (a .outbox .now) (a .frame .now) _ (a .used) (omega (arith, held _ _ w .0, t .if3 .left)) (c .before .before .copy .ensures),
+    )
+
+pub append-spec : {M : Type 1} → statement M
+append-spec =
+    tie.close
+    (tie.spec
+    is-whole-requires
+    same-length
+    returns
+    frame-number-requires
+    same-length-2
+    returns-2
+    sub-if3
+    same-length-3
+    returns-3
+    add-end
+    sub-copy
+    part-copy-start
+    part-copy-end
+    copy-requires
+    same-length-4
+    returns-4)

@@ -1,0 +1,4 @@
+pub mod Once
+pub mod Heads
+pub mod Streams
+pub mod Frames
