@@ -46,7 +46,6 @@ on-from (b ∷ s) e h =
 
 -- the frame at the front, where append takes it
 pub record Front (s : List ℕ) : Type 0 where
-  pub long : 10 ≤ lengthIn s
   pub within : 4 + lengthIn s ≤ length s
   pub size : frontSize s ≡ 4 + lengthIn s
   pub on : wholeFrom 0 s ≡ wholeFrom 0 (drop (4 + lengthIn s) s)
@@ -56,9 +55,8 @@ unfolding frontSize
 front-is s e =
     let n = lengthIn s in
     let same : lengthIn (front s) ≡ n = ap numberOf (take-take 4 (4 + n) s (omega arith)) in
-    let f = frame-fits (front s) e in
-    let h : 4 + n ≤ length s = omega (arith, f .1, same, length-take (4 + n) s) in
-    record { long = omega (arith, f .0, same); within = h; size = rw (eq-eqb _ _ e); on = on-from s e h }
+    let h : 4 + n ≤ length s = omega (arith, frame-fits (front s) e .1, same, length-take (4 + n) s) in
+    record { within = h; size = rw (eq-eqb _ _ e); on = on-from s e h }
 
 -- no such frame is longer than the bytes
 pub no-front : (s : List ℕ) → length s < 4 + lengthIn s → frontSize s ≡ 0

@@ -37,7 +37,7 @@ first-is s used n e h r =
 -- both outboxes hold whole frames, and data some where control has none
 pub record Next (c : List ℕ) (m : ℕ) (d : List ℕ) (n : ℕ) : Type 0 where
   pub control : holds c m ≡ true
-  pub stock : holds d n ≡ true
+  pub «data» : holds d n ≡ true
   pub some : m ≡ 0 → 0 < n
 
 pub next-is : (c : List ℕ) (m : ℕ) (d : List ℕ) (n : ℕ) → nextNumber c m d n ≡ 0 → Next c m d n
@@ -50,5 +50,5 @@ next-is c m d n e = go (holds c m) (holds d n) (eqb m 0) (eqb n 0) refl refl ref
     go false b x y p q r t e = absurd (omega arith)
     go true false x y p q r t e = absurd (omega arith)
     go true true true true p q r t e = absurd (omega arith)
-    go true true true false p q r t e = record { control = p; stock = q; some = λ z. omega (arith, eqb-false n 0 t) }
-    go true true false y p q r t e = record { control = p; stock = q; some = λ z. absurd (eqb-false m 0 r z) }
+    go true true true false p q r t e = record { control = p; «data» = q; some = λ z. omega (arith, eqb-false n 0 t) }
+    go true true false y p q r t e = record { control = p; «data» = q; some = λ z. absurd (eqb-false m 0 r z) }

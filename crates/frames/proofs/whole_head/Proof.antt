@@ -7,6 +7,7 @@ use lib.ListN.{length, getD}
 use Rattle.frame.specs.Frame.{lengthIn, kindNumber}
 use Rattle.frames.specs.State.{readerOf}
 use Rattle.frames.specs.Feed.{headNumber}
+use native.Mathlib.Omega.{arith}
 use Rattle.frame.proofs.Laws.{length-range}
 use Rattle.frames.proofs.Heads.{number-whole, pushed-refused, pushed-whole}
 use Rattle.frames.proofs.whole_head.Statement.{statement}
@@ -40,7 +41,7 @@ returns c =
     c .refusal .ensures ∙ pushed-refused t _ k (c .before .if1 .taken)
 
 sub-left : tie.Need-sub-left
-sub-left c = rw (c .before .before .length-in .ensures .0) (length-range _ (c .before .before .before .before .pre) .0)
+sub-left c = omega (arith, c .before .before .length-in .ensures .0, length-range _ (c .before .before .before .before .pre) .0)
 
 header-in-requires : tie.Need-header-in-requires
 header-in-requires c κs = search needs

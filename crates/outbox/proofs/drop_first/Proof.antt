@@ -30,10 +30,10 @@ add-size : tie.Need-add-size
 add-size c = search needs
 
 move-down-requires : tie.Need-move-down-requires
-move-down-requires c κs = (read (c .before) .within, read (c .before) .there)
+move-down-requires c κs = (omega (arith, read (c .before) .within), read (c .before) .there)
 
 sub-result : tie.Need-sub-result
-sub-result c = read (c .before .before .before .before) .within
+sub-result c = omega (arith, read (c .before .before .before .before) .within)
 
 same-length : tie.Need-same-length
 same-length c = search needs

@@ -30,7 +30,7 @@ returns c = (rw (← c .before .next-number .ensures, ne-eqb _ _ (c .if1 .taken)
 drop-first-requires : tie.Need-drop-first-requires
 drop-first-requires c κs =
     let t = there (c .before .before) in
-    (t .stock, t .some (c .before .if2 .taken))
+    (t .«data», t .some (c .before .if2 .taken))
 
 drop-first-requires-2 : tie.Need-drop-first-requires-2
 drop-first-requires-2 c κs = (there (c .before .before) .control, omega (arith, c .before .if2 .left))

@@ -35,7 +35,7 @@ returns c =
 first-requires : tie.Need-first-requires
 first-requires c κs =
     let t = there (c .before) in
-    (t .stock, t .some (c .if2 .taken))
+    (t .«data», t .some (c .if2 .taken))
 
 first-requires-2 : tie.Need-first-requires-2
 first-requires-2 c κs = (there (c .before) .control, omega (arith, c .if2 .left))
