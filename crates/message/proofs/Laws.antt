@@ -1,0 +1,35 @@
+-- The item of a header is the format byte of B with one length byte, the length 10 and the header's bytes: twelve bytes, and a lean text.
+use Prim.Native.Nat.{ℕ, _%_}
+use mathlib.Core.Path.{_≡_, refl, ap, _∙_}
+use mathlib.Core.List.{List, _∷_}
+use native.Mathlib.Nat.{mod-one}
+use native.Mathlib.Omega.{arith}
+use borrow.Author.Tests.{eq-eqb}
+use lib.ListN.{length}
+use Rattle.wire.specs.Number.{bytesOf, AtMost}
+use Rattle.item.specs.Code.{kindOf, allowed, largest}
+use Rattle.item.specs.Item.{plain, one, lean, fewest, Content, Says, told, leanItem}
+use Rattle.item.proofs.Fewest.{lean-lengths}
+use Rattle.frame.specs.Header.{headerBytes}
+use Rattle.frame.specs.declared.Header.{Header}
+use Rattle.frame.proofs.Laws.{bytes-length}
+use Rattle.message.specs.Written.{aboutOf}
+
+pub about-bytes : (h : Header) → aboutOf h ≡ 0x21 ∷ 0x0A ∷ headerBytes h
+unfolding aboutOf leanItem told fewest headerBytes bytesOf
+about-bytes h = refl
+
+pub about-length : (h : Header) → length (aboutOf h) ≡ 12
+about-length h = ap length (about-bytes h) ∙ rw (bytes-length h)
+
+-- any bytes are a lean content of B
+bytes-content : (x : List ℕ) → AtMost 0xFF x → Content lean 0o10 x
+unfolding kindOf allowed largest
+bytes-content x a = record { width = 1; known = refl; whole = eq-eqb (length x % 1) 0 (mod-one (length x)); bytes = a }
+
+pub about-lean : (h : Header) → AtMost 0xFF (headerBytes h) → Says lean (one (plain 0o10 (headerBytes h))) (aboutOf h)
+unfolding aboutOf leanItem told
+about-lean h a =
+    let n = length (headerBytes h) in
+    let lens = lean-lengths n (omega (arith, bytes-length h)) in
+    ((bytesOf (fewest n) n, refl, lens, bytes-content (headerBytes h) a, omega arith), omega (arith, about-length h))

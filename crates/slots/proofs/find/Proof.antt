@@ -1,0 +1,69 @@
+-- The invariant: the search comes to the place i and, in the slots from there on, as far as it does.
+use Prim.Native.Nat.{_+_, _-_, _≤_}
+use mathlib.Core.Path.{_≡_, sym, _∙_}
+use native.Mathlib.Omega.{arith}
+use borrow.Author.Needs.{needs}
+use lib.ListN.{drop}
+use Rattle.slots.specs.Slots.{foundAt}
+use Rattle.slots.proofs.Found.{found-here, found-next, found-end}
+use Rattle.slots.proofs.find.Statement.{statement}
+use Rattle.slots.proofs.find.Tie as tie
+
+abbrev Inv-loop : tie.InvT-loop
+Inv-loop q slots i₀ i = (i ≤ 32) × (foundAt q slots ≡ i + foundAt q (drop i slots))
+
+abbrev μ-loop : tie.MeasureT-loop
+μ-loop q slots i₀ i = 32 - i
+
+loop-holds : tie.Need-loop-holds Inv-loop μ-loop
+loop-holds c = search needs
+
+mul-is-match : tie.Need-mul-is-match Inv-loop μ-loop
+mul-is-match c = search needs
+
+array-copy-out-is-match : tie.Need-array-copy-out-is-match Inv-loop μ-loop
+array-copy-out-is-match c = search needs
+
+is-match-requires : tie.Need-is-match-requires Inv-loop μ-loop
+is-match-requires c κs = search needs
+
+returns : tie.Need-returns Inv-loop μ-loop
+returns c =
+    let l = c .before .before .before .before in
+    let a = l .before .args in
+    omega (arith, found-here (a .q) (a .t1) (l .loop .i) (omega arith) (sym (c .before .is-match .ensures) ∙ c .if1 .taken))
+
+add-i : tie.Need-add-i Inv-loop μ-loop
+add-i c = search needs
+
+loop-less : tie.Need-loop-less Inv-loop μ-loop
+loop-less c = search needs
+
+loop-again : tie.Need-loop-again Inv-loop μ-loop
+loop-again c =
+    let l = c .before .before .before .before in
+    let a = l .before .args in (
+      search needs,
+      omega (arith, found-next (a .q) (a .t1) (l .loop .i) (omega arith) (sym (c .before .is-match .ensures) ∙ c .if1 .left)),
+    )
+
+returns-2 : tie.Need-returns-2 Inv-loop μ-loop
+returns-2 c =
+    let a = c .before .before .args in
+    omega (arith, found-end (a .q) (a .t1) (c .before .loop .i) (omega arith))
+
+pub find-spec : {M : Type 1} → statement M
+find-spec =
+    tie.close
+    (tie.spec
+    Inv-loop
+    μ-loop
+    loop-holds
+    mul-is-match
+    array-copy-out-is-match
+    is-match-requires
+    returns
+    add-i
+    loop-less
+    loop-again
+    returns-2)
