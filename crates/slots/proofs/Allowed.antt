@@ -20,7 +20,7 @@ use Rattle.slots.proofs.Found.{found-least, found-passes, none-at, none
 -- ---- slot by slot
 
 module _ (l : List Slot) where
-  abbrev allowedAt : ℕ → Bool
+  abbrev pub allowedAt : ℕ → Bool
   allowedAt i = allowsSlot l i (getD l i free)
 
   pub allows-more : (i : ℕ) → allowsFirst l i ≡ true → allowedAt i ≡ true → allowsFirst l (i + 1) ≡ true
