@@ -1,6 +1,7 @@
 -- The definition asks the same tests.
 use borrow.Author.Tests.{lt-ltb, le-ltb}
 use Rattle.state.specs.Listed.{allowsTest}
+use native.Mathlib.Omega.{arith}
 use borrow.Author.Needs.{needs}
 use Rattle.state.proofs.allows_test.Statement.{statement}
 use Rattle.state.proofs.allows_test.Tie as tie
@@ -10,11 +11,11 @@ find-requires c κs = search needs
 
 returns : tie.Need-returns
 unfolding allowsTest
-returns c = rw (c .before .before .if1 .taken, ← c .before .find .ensures, lt-ltb _ _ (c .if2 .taken))
+returns c = rw (c .before .before .if1 .taken, ← c .before .find .ensures, lt-ltb (c .before .find .result) 32 (omega arith))
 
 returns-2 : tie.Need-returns-2
 unfolding allowsTest
-returns-2 c = rw (c .before .before .if1 .taken, ← c .before .find .ensures, le-ltb _ _ (c .if2 .left))
+returns-2 c = rw (c .before .before .if1 .taken, ← c .before .find .ensures, le-ltb (c .before .find .result) 32 (omega arith))
 
 returns-3 : tie.Need-returns-3
 unfolding allowsTest
