@@ -1,2 +1,3 @@
 pub mod New
+pub mod Listed
 pub mod Determined

@@ -1,0 +1,75 @@
+-- The definition asks the same tests, and each answer is built by calls that promise its parts.
+use native.Mathlib.Omega.{arith}
+use borrow.Author.Needs.{needs}
+use Rattle.table.proofs.Cases.{first, second, told-so, there, absent}
+use Rattle.table.specs.Table.{rejectedOf}
+use Rattle.control.proofs.rejected.Statement.{statement}
+use Rattle.control.proofs.rejected.Tie as tie
+
+find-requires : tie.Need-find-requires
+find-requires c κs = search needs
+
+free-slot-requires : tie.Need-free-slot-requires
+free-slot-requires c κs = search needs
+
+with-slot-requires : tie.Need-with-slot-requires
+with-slot-requires c κs = search needs
+
+with-own-requires : tie.Need-with-own-requires
+with-own-requires c κs = search needs
+
+told-of-requires : tie.Need-told-of-requires
+told-of-requires c κs = search needs
+
+returns : tie.Need-returns
+unfolding rejectedOf
+returns c =
+    first _ _ _ (there _ _ _ (c .before .before .before .before .before .find .ensures) (omega arith))
+    (rw (c .told-of .ensures, c .before .with-own .ensures, c .before .before .with-slot .ensures, c .before .before .before .free-slot .ensures, c .before .before .before .before .before .find .ensures))
+
+is-running-requires : tie.Need-is-running-requires
+is-running-requires c κs = search needs
+
+no-test-requires : tie.Need-no-test-requires
+no-test-requires c κs = search needs
+
+with-test-requires : tie.Need-with-test-requires
+with-test-requires c κs = search needs
+
+told-of-requires-2 : tie.Need-told-of-requires-2
+told-of-requires-2 c κs = search needs
+
+returns-2 : tie.Need-returns-2
+unfolding rejectedOf
+returns-2 c =
+    second _ _ _ (absent _ _ _ (c .before .before .before .before .before .before .before .before .find .ensures) (omega arith))
+    (first _ _ _ (told-so (c .before .before .before .before .is-running .ensures) (c .before .before .before .if2 .taken))
+    (rw (c .told-of2 .ensures, c .before .with-test .ensures, c .before .before .no-test .ensures)))
+
+told-of-requires-3 : tie.Need-told-of-requires-3
+told-of-requires-3 c κs = search needs
+
+returns-3 : tie.Need-returns-3
+unfolding rejectedOf
+returns-3 c =
+    second _ _ _ (absent _ _ _ (c .before .before .before .before .before .before .find .ensures) (omega arith))
+    (second _ _ _ (told-so (c .before .before .is-running .ensures) (c .before .if2 .left))
+    (rw (c .told-of3 .ensures)))
+
+pub rejected-spec : {M : Type 1} → statement M
+rejected-spec =
+    tie.close
+    (tie.spec
+    find-requires
+    free-slot-requires
+    with-slot-requires
+    with-own-requires
+    told-of-requires
+    returns
+    is-running-requires
+    no-test-requires
+    with-test-requires
+    told-of-requires-2
+    returns-2
+    told-of-requires-3
+    returns-3)

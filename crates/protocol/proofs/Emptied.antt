@@ -1,0 +1,78 @@
+-- Disconnect, T6, T7 and T8 leave no slot and no linktest open, Deselect.req and separate no slot: their rows empty the tables, or refuse, or are those of a state with no slot open.
+use Prim.Native.Nat.{ℕ}
+use mathlib.Core.Bool.{Bool, true, false}
+use mathlib.Core.List.{List}
+use mathlib.Core.Path.{_≡_, refl, ap}
+use borrow.Author.Tests.{eqb-false}
+use lib.Dec.{eqb, ltb}
+use Rattle.slots.specs.Slots.{noSlots, isThere}
+use Rattle.slots.specs.declared.Query.the-variants.{Taken}
+use Rattle.slots.proofs.Found.{no-slots-none, free-not-taken}
+use Rattle.message.specs.declared.Send.{Send}
+use Rattle.state.specs.State.{selected, deselected, gone}
+use Rattle.state.specs.Listed.{allows}
+use Rattle.state.specs.declared.Session.{Session}
+use Rattle.table.specs.Pick.{pick}
+use Rattle.table.specs.Answer.{answer, told}
+use Rattle.table.specs.Table.{moved, deselectOf, separatedOf, kindOf, cameOf, disconnectOf, phaseNumber, separateOf, wishOf, t6Of, t7Of, t8Of, timerOf, eventOf, stepOf}
+use Rattle.table.specs.declared.Stepped.{Stepped}
+use Rattle.table.specs.declared.Event.{Event}
+use Rattle.table.proofs.Cases.{by-pick}
+use Rattle.protocol.specs.Protocol.{NoneOpen, Gone, Disconnects, disconnect, t6, t7, t8, Deselects, deselect-req, separate-req, separate}
+use Rattle.protocol.proofs.Open.{none-open}
+
+none-taken : isThere Taken noSlots ≡ false
+none-taken = ap (λ (i : ℕ). ltb i 32) (no-slots-none Taken free-not-taken)
+
+gone-all : (s : Session) → Gone s (gone s)
+gone-all s = record { slots = record { received = none-taken; own = none-taken }; linktest = refl; next = refl }
+
+deselected-none : (s : Session) → NoneOpen (deselected s)
+deselected-none s = record { received = none-taken; own = none-taken }
+
+-- ---- where a step answers 0, its state is as said
+
+record Left (P : Session → Type 0) (r : Stepped) : Type 0 where
+  left : r .number ≡ 0 → P (r .session)
+
+module _ {P : Session → Type 0} where
+  either : (b : Bool) (x y : Stepped) → Left P x → Left P y → Left P (pick b x y)
+  either b x y p q = by-pick (Left P) b x y (λ _. p) (λ _. q)
+
+  leaves : (t : Session) (m : Send) → P t → Left P (answer 0 t m)
+  leaves t m p = record { left = λ _. p }
+
+  refuses : (n : ℕ) (t : Session) → eqb n 0 ≡ false → Left P (told n t)
+  refuses n t z = record { left = λ w. absurd (eqb-false n 0 z w) }
+
+  -- 14 first
+  step-left : (s : Session) (e : Event) (text : List ℕ) → (allows s ≡ true → Left P (eventOf s e text)) → Left P (stepOf s e text)
+  unfolding stepOf
+  step-left s e text go = by-pick (Left P) (allows s) (eventOf s e text) (told 14 s) go (λ _. refuses 14 s refl)
+
+module _ (s : Session) where
+  disconnects-left : (e : Event) (text : List ℕ) → Disconnects e → Left (Gone s) (eventOf s e text)
+  unfolding eventOf wishOf timerOf disconnectOf t6Of t7Of t8Of
+  disconnects-left e text disconnect = either _ _ _ (leaves _ _ (gone-all s)) (refuses 20 s refl)
+  disconnects-left e text t6 = either _ _ _ (leaves _ _ (gone-all s)) (refuses 27 s refl)
+  disconnects-left e text t7 = either _ _ _ (either _ _ _ (refuses 27 s refl) (leaves _ _ (gone-all s))) (refuses 27 s refl)
+  disconnects-left e text t8 = either _ _ _ (leaves _ _ (gone-all s)) (refuses 27 s refl)
+
+  module _ (ok : allows s ≡ true) where
+    -- selected, the slots are emptied; not selected, they are empty
+    by-phase : (m m′ : Send) → Left NoneOpen (pick (selected s) (answer 0 (deselected s) m) (answer 0 s m′))
+    by-phase m m′ = by-pick (Left NoneOpen) (selected s) _ _ (λ _. leaves _ m (deselected-none s)) (λ out. leaves s m′ (none-open s ok out))
+
+    deselects-left : (e : Event) (text : List ℕ) → Deselects e → Left NoneOpen (eventOf s e text)
+    unfolding eventOf cameOf kindOf wishOf deselectOf separatedOf separateOf
+    deselects-left e text (deselect-req h) = either _ _ _ (by-phase _ _) (refuses 20 s refl)
+    deselects-left e text (separate-req h) = either _ _ _ (by-phase _ _) (refuses 20 s refl)
+    deselects-left e text separate = by-pick (Left NoneOpen) _ _ _ (λ _. leaves _ _ (deselected-none (moved s))) (λ w. refuses (phaseNumber s) s w)
+
+  -- DISCONNECT, T6, T7 AND T8 LEAVE NO SLOT AND NO LINKTEST OPEN, and the next own number as it was.
+  pub disconnected : (e : Event) (text : List ℕ) → Disconnects e → stepOf s e text .number ≡ 0 → Gone s (stepOf s e text .session)
+  disconnected e text d = step-left s e text (λ _. disconnects-left e text d) .left
+
+  -- DESELECT.REQ AND SEPARATE, RECEIVED OR WISHED, LEAVE NO SLOT OPEN, whatever the phase.
+  pub separated : (e : Event) (text : List ℕ) → Deselects e → stepOf s e text .number ≡ 0 → NoneOpen (stepOf s e text .session)
+  separated e text d = step-left s e text (λ ok. deselects-left ok e text d) .left

@@ -1,0 +1,7 @@
+pub mod Open
+pub mod Rows
+pub mod Refused
+pub mod Quiet
+pub mod Emptied
+pub mod Secondary
+pub mod Replies

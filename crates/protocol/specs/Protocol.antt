@@ -1,0 +1,124 @@
+-- What an event delivers, sends, changes and leaves open: the words of the session's theorems.
+use Prim.Native.Nat.{ℕ, _+_, _<_}
+use mathlib.Core.Bool.{Bool, true, false, cond}
+use mathlib.Core.List.{List}
+use mathlib.Core.Logic.{_⊎_}
+use mathlib.Core.Path.{_≡_}
+use lib.Dec.{eqb}
+use lib.ListN.{getD, set}
+use Rattle.frame.specs.Header.{wOf, streamOf}
+use Rattle.frame.specs.declared.Header.{Header}
+use Rattle.slots.specs.Slots.{free, foundAt, isThere}
+use Rattle.slots.specs.declared.Slot.{Slot}
+use Rattle.slots.specs.declared.Query.the-variants.{Taken, Named, Answered}
+use Rattle.text.specs.Text.{judgedOf}
+use Rattle.message.specs.declared.Received.the-variants.{DeselectReq, SeparateReq}
+use Rattle.message.specs.declared.Text.{Text}
+use Rattle.message.specs.declared.Send.{Send}
+use Rattle.message.specs.declared.Send.the-variants.{Nothing, Message}
+use Rattle.state.specs.State.{withReceived, withOwn}
+use Rattle.state.specs.declared.Session.{Session}
+use Rattle.table.specs.Answer.{told}
+use Rattle.table.specs.Table.{receivedAt, stepOf}
+use Rattle.table.specs.declared.Stepped.{Stepped}
+use Rattle.table.specs.declared.Timer.the-variants.{T6, T7, T8}
+use Rattle.table.specs.declared.Wish.the-variants.{Disconnect, Reply, Abort, Separate}
+use Rattle.table.specs.declared.Event.{Event}
+use Rattle.table.specs.declared.Event.the-variants.{Timer as onTimer, Wish as onWish, Received as onReceived}
+
+-- ---- data is neither delivered nor sent
+
+-- delivered: 30, a primary, or 31, a secondary
+abbrev pub delivers : ℕ → Bool
+delivers n = cond (eqb n 30) true (eqb n 31)
+
+-- data has SType 0
+abbrev pub isData : Send → Bool
+isData Nothing = false
+isData (Message h x) = eqb (h .stype) 0
+
+pub record Quiet (r : Stepped) : Type 0 where
+  pub undelivered : delivers (r .number) ≡ false
+  pub unsent : isData (r .send) ≡ false
+
+-- ---- a refusal, and a message that is dropped
+
+-- all that does something answers 0, or delivers, or closes what was rejected, 34
+abbrev pub acts : ℕ → Bool
+acts n = cond (eqb n 0) true (cond (delivers n) true (eqb n 34))
+
+pub record Unchanged (s : Session) (r : Stepped) : Type 0 where
+  pub state : r .session ≡ s
+  pub silent : r .send ≡ Nothing
+
+-- ---- a reply that goes out
+
+-- the received primary with these system bytes
+abbrev pub primaryAt : Session → ℕ → Slot
+primaryAt s n = getD (s .device .received) (receivedAt s n) free
+
+-- the reply answers the received primary with system bytes n, with function f, and closes it; after it, a reply is 25, and an abort
+pub record Replied (s : Session) (n f : ℕ) (text : Text) (r : Stepped) : Type 0 where
+  pub header : Header
+  pub sends : r .send ≡ Message header text
+  pub is-open : primaryAt s n .taken ≡ true
+  pub named : primaryAt s n .system ≡ n
+  pub system : header .system ≡ n
+  pub stream : streamOf header ≡ primaryAt s n .stream
+  pub function : header .byte3 ≡ f
+  pub no-w : wOf header ≡ false
+  pub closes : r .session ≡ withReceived s (set (s .device .received) (receivedAt s n) free)
+  pub closed : isThere (Named n) (r .session .device .received) ≡ false
+  pub not-again : (later : List ℕ) → judgedOf later ≡ 0 → stepOf (r .session) (onWish (Reply n)) later ≡ told 25 (r .session)
+  pub nor-aborted : (later : List ℕ) → stepOf (r .session) (onWish (Abort n)) later ≡ told 25 (r .session)
+
+-- ---- a secondary that is delivered
+
+-- the place of the own primary that a header answers
+abbrev pub answeredAt : Session → Header → ℕ
+answeredAt s h = foundAt (Answered (h .system) (streamOf h) (h .byte3)) (s .device .own)
+
+-- the own primary at a place
+abbrev pub ownOf : Session → ℕ → Slot
+ownOf s i = getD (s .device .own) i free
+
+-- an open primary with the header's system bytes and stream, and function one less, or the header's function 0
+pub record Awaits (h : Header) (p : Slot) : Type 0 where
+  pub is-open : p .taken ≡ true
+  pub system : p .system ≡ h .system
+  pub stream : p .stream ≡ streamOf h
+  pub function : (p .function + 1 ≡ h .byte3) ⊎ (h .byte3 ≡ 0)
+
+-- the secondary answers an own primary that awaits it, and closes it
+pub record Delivered (s : Session) (h : Header) (r : Stepped) : Type 0 where
+  pub place : answeredAt s h < 32
+  pub awaits : Awaits h (ownOf s (answeredAt s h))
+  pub no-w : wOf h ≡ false
+  pub closes : r .session ≡ withOwn s (set (s .device .own) (answeredAt s h) free)
+  pub closed : isThere (Named (h .system)) (r .session .device .own) ≡ false
+  pub silent : r .send ≡ Nothing
+
+-- ---- what is left open
+
+pub record NoneOpen (s : Session) : Type 0 where
+  pub received : isThere Taken (s .device .received) ≡ false
+  pub own : isThere Taken (s .device .own) ≡ false
+
+-- no slot and no linktest is open, and the next own number is as it was
+pub record Gone (s t : Session) : Type 0 where
+  pub slots : NoneOpen t
+  pub linktest : t .link .linktest .running ≡ false
+  pub next : t .link .next ≡ s .link .next
+
+-- disconnect, T6, T7 and T8
+pub data Disconnects : Event → Type 0 where
+  disconnect : Disconnects (onWish Disconnect)
+  t6 : Disconnects (onTimer T6)
+  t7 : Disconnects (onTimer T7)
+  t8 : Disconnects (onTimer T8)
+
+-- Deselect.req, and separate, received or wished
+pub data Deselects : Event → Type 0 where
+  deselect-req : (h : Header) → Deselects (onReceived (DeselectReq h))
+  separate-req : (h : Header) → Deselects (onReceived (SeparateReq h))
+  separate : Deselects (onWish Separate)

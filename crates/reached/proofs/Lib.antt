@@ -1,0 +1,4 @@
+pub mod Kept
+pub mod Changed
+pub mod Rows
+pub mod Reached

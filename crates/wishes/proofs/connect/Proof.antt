@@ -1,0 +1,41 @@
+-- The definition asks the same tests, and each answer is built by calls that promise its parts.
+use borrow.Author.Needs.{needs}
+use Rattle.table.proofs.Cases.{first, second, told-so}
+use Rattle.table.specs.Table.{connectOf}
+use Rattle.wishes.proofs.connect.Statement.{statement}
+use Rattle.wishes.proofs.connect.Tie as tie
+
+is-connected-requires : tie.Need-is-connected-requires
+is-connected-requires c κs = search needs
+
+told-of-requires : tie.Need-told-of-requires
+told-of-requires c κs = search needs
+
+returns : tie.Need-returns
+unfolding connectOf
+returns c =
+    first _ _ _ (told-so (c .before .before .is-connected .ensures) (c .before .if1 .taken))
+    (rw (c .told-of .ensures))
+
+with-phase-requires : tie.Need-with-phase-requires
+with-phase-requires c κs = search needs
+
+told-of-requires-2 : tie.Need-told-of-requires-2
+told-of-requires-2 c κs = search needs
+
+returns-2 : tie.Need-returns-2
+unfolding connectOf
+returns-2 c =
+    second _ _ _ (told-so (c .before .before .before .is-connected .ensures) (c .before .before .if1 .left))
+    (rw (c .told-of2 .ensures, c .before .with-phase .ensures))
+
+pub connect-spec : {M : Type 1} → statement M
+connect-spec =
+    tie.close
+    (tie.spec
+    is-connected-requires
+    told-of-requires
+    returns
+    with-phase-requires
+    told-of-requires-2
+    returns-2)
