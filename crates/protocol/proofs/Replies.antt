@@ -1,22 +1,21 @@
 -- A reply that is asked for goes out only for a received primary that is still open, and closes it: no two have the same system bytes, so none is left to reply to.
-use Prim.Native.Nat.{ℕ, _+_, _%_, _≤_, _<_}
-use mathlib.Core.Bool.{Bool, true, false, cond}
+use Prim.Native.Nat.{ℕ, _+_, _≤_, _<_}
+use mathlib.Core.Bool.{true, false}
 use mathlib.Core.List.{List}
 use mathlib.Core.Path.{_≡_, refl, ap, _∙_}
 use native.Mathlib.Nat.{mod-eq-of-lt}
 use native.Mathlib.Omega.{arith}
-use borrow.Author.Tests.{ltb-true, leb-true, eq-eqb, eqb-true}
-use lib.Dec.{eqb, leb, ltb}
+use borrow.Author.Tests.{ltb-true, eq-eqb, eqb-true}
+use lib.Dec.{eqb, ltb}
 use lib.ListN.{length, set}
-use Rattle.wire.proofs.Choice.{both}
 use Rattle.frame.specs.Header.{dataHeader}
 use Rattle.frame.specs.declared.Header.{Header}
 use Rattle.frame.proofs.Laws.{data-w, data-stream}
-use Rattle.slots.specs.Slots.{free, passes, isThere, isPrimary}
+use Rattle.slots.specs.Slots.{free, passes, isThere}
 use Rattle.slots.specs.declared.Slot.{Slot}
 use Rattle.slots.specs.declared.Query.the-variants.{Named}
 use Rattle.slots.proofs.Found.{found-passes, named-taken, named-system}
-use Rattle.slots.proofs.Allowed.{Allowed, allows-facts, facts-allow, closed-allowed, closed-none}
+use Rattle.slots.proofs.Allowed.{Allowed, allows-facts, facts-allow, closed-allowed, closed-none, primary-range}
 use Rattle.text.specs.Text.{judgedOf}
 use Rattle.message.specs.declared.Text.{Text}
 use Rattle.message.specs.declared.Text.the-variants.{Empty, Wished}
@@ -53,11 +52,6 @@ module _ (t : Session) (n : ℕ) (ok : allows t ≡ true) (phase : phaseNumber t
   no-abort later = let-through _ ∙ not-open _
 
 -- ---- what goes out closes its slot
-
-primary-stream : (m f : ℕ) → isPrimary m f ≡ true → m ≤ 127
-primary-stream m f e =
-    let last : Bool = cond (eqb (f % 2) 1) (leb f 253) false in
-    leb-true m 127 (both (leb m 127) last (both (leb 1 m) (cond (leb m 127) last false) e .1) .0)
 
 module _ (s : Session) (n : ℕ) (size : length (s .device .received) ≡ 32) (ok : allows s ≡ true) (phase : phaseNumber s ≡ 0) where
   abbrev received : List Slot
@@ -100,7 +94,7 @@ module _ (s : Session) (n : ℕ) (size : length (s .device .received) ≡ 32) (o
     is-open = named-taken n (primaryAt s n) passed
 
     small : primaryAt s n .stream ≤ 127
-    small = primary-stream (primaryAt s n .stream) (primaryAt s n .function) (allowed .primary at place is-open)
+    small = primary-range (primaryAt s n .stream) (primaryAt s n .function) (allowed .primary at place is-open) .0
 
     replies : Replied s n f text (answer 0 after (Message header text))
     unfolding dataHeader

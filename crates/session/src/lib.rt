@@ -18,12 +18,9 @@ fn reply(s: Session, n: u32) -> Stepped
     let at = slots::find(received, Query::Named(n));
     if at < 32 {
         let x = received[at];
+        let f = x.function + 1;
         let t = state::with_received(s, slots::with_slot(received, at, slots::free_slot()));
-        return table::answer_of(
-            0,
-            t,
-            table::sent_of(s, false, x.stream, x.function + 1, n, Text::Wished),
-        );
+        return table::answer_of(0, t, table::sent_of(s, false, x.stream, f, n, Text::Wished));
     }
     table::told_of(25, s)
 }

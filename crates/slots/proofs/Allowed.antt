@@ -1,5 +1,5 @@
 -- The test of a table and the facts that it stands for give each other, and stores keep the facts.
-use Prim.Native.Nat.{ℕ, zero, suc, _+_, _≤_, _<_}
+use Prim.Native.Nat.{ℕ, zero, suc, _+_, _%_, _≤_, _<_}
 use mathlib.Core.List.{List}
 use mathlib.Core.Bool.{Bool, true, false, false≢true, cond}
 use mathlib.Core.Path.{_≡_, refl, ap, sym, subst, _∙_}
@@ -7,8 +7,8 @@ use native.Mathlib.Nat.{not-suc-le-zero}
 use native.Mathlib.Decide.{ℕ-discrete, decLt}
 use native.Mathlib.Numerals.{add-one}
 use native.Mathlib.Omega.{arith}
-use borrow.Author.Tests.{eq-eqb, eqb-true}
-use lib.Dec.{eqb}
+use borrow.Author.Tests.{eq-eqb, eqb-true, leb-true}
+use lib.Dec.{eqb, leb}
 use lib.ListN.{length, getD, set, length-set}
 use lib.Seq.{getD-set-same, getD-set-other}
 use Rattle.wire.proofs.Choice.{both}
@@ -195,3 +195,22 @@ module _ {l : List Slot} (a : Allowed l) (n : ℕ) where
       go : (i : ℕ) → i < 32 → Dec (i ≡ at) → passes (Named n) (getD (set l at free) i free) ≡ false
       go i h (yes e) = ap (passes (Named n)) (same a at free i h e) ∙ free-not-named n
       go i h (no e) = ap (passes (Named n)) (other a at free i e) ∙ unnamed i h e (passes (Named n) (getD l i free)) refl
+
+-- a primary's stream is at most 127, its function at most 253
+pub primary-range : (m f : ℕ) → isPrimary m f ≡ true → (m ≤ 127) × (f ≤ 253)
+primary-range m f e =
+    let last : Bool = cond (eqb (f % 2) 1) (leb f 253) false in
+    let v = both (leb m 127) last (both (leb 1 m) (cond (leb m 127) last false) e .1) in
+    (leb-true m 127 (v .0), leb-true f 253 (both (eqb (f % 2) 1) (leb f 253) (v .1) .1))
+
+-- so a slot of a table that is allowed has a function of at most 253
+pub function-small : (l : List Slot) (i : ℕ) → allowsSlots l ≡ true → i < 32 → getD l i free .function ≤ 253
+unfolding allowsSlots
+function-small l i e h = go (getD l i free .taken) refl
+  where
+    one : allowsSlot l i (getD l i free) ≡ true
+    one = allows-each l 32 e i h
+
+    go : (b : Bool) → getD l i free .taken ≡ b → getD l i free .function ≤ 253
+    go true w = primary-range (getD l i free .stream) (getD l i free .function) (taken-test l i (getD l i free) w one .1) .1
+    go false w = rw (free-test l i (getD l i free) w one) (omega arith)

@@ -1,0 +1,34 @@
+-- Two outcomes that a promise permits for the same call are equal: each is the one that the definition gives.
+use mathlib.Core.Path.{_≡_, sym, _∙_}
+use Rattle.wishes.proofs.connect.Reads as connect-reads
+use Rattle.wishes.proofs.disconnect.Reads as disconnect-reads
+use Rattle.wishes.proofs.flag.Reads as flag-reads
+use Rattle.wishes.proofs.phase_number.Reads as phase-number-reads
+use Rattle.wishes.proofs.linktest.Reads as linktest-reads
+use Rattle.wishes.proofs.wished_primary.Reads as wished-primary-reads
+use Rattle.wishes.proofs.wished_abort.Reads as wished-abort-reads
+use Rattle.wishes.proofs.wished_separate.Reads as wished-separate-reads
+
+connect-one : (κs : _) (a : _) (r r′ : _) (s s′ : _) → connect-reads.Post κs a r s → connect-reads.Post κs a r′ s′ → r ≡ r′
+connect-one κs a r r′ s s′ p q = p ∙ sym q
+
+disconnect-one : (κs : _) (a : _) (r r′ : _) (s s′ : _) → disconnect-reads.Post κs a r s → disconnect-reads.Post κs a r′ s′ → r ≡ r′
+disconnect-one κs a r r′ s s′ p q = p ∙ sym q
+
+flag-one : (κs : _) (a : _) (r r′ : _) (s s′ : _) → flag-reads.Post κs a r s → flag-reads.Post κs a r′ s′ → r ≡ r′
+flag-one κs a r r′ s s′ p q = p ∙ sym q
+
+phase-number-one : (κs : _) (a : _) (r r′ : _) (s s′ : _) → phase-number-reads.Post κs a r s → phase-number-reads.Post κs a r′ s′ → r ≡ r′
+phase-number-one κs a r r′ s s′ p q = p ∙ sym q
+
+linktest-one : (κs : _) (a : _) (r r′ : _) (s s′ : _) → linktest-reads.Post κs a r s → linktest-reads.Post κs a r′ s′ → r ≡ r′
+linktest-one κs a r r′ s s′ p q = p ∙ sym q
+
+wished-primary-one : (κs : _) (a : _) (r r′ : _) (s s′ : _) → wished-primary-reads.Post κs a r s → wished-primary-reads.Post κs a r′ s′ → r ≡ r′
+wished-primary-one κs a r r′ s s′ p q = p ∙ sym q
+
+wished-abort-one : (κs : _) (a : _) (r r′ : _) (s s′ : _) → wished-abort-reads.Post κs a r s → wished-abort-reads.Post κs a r′ s′ → r ≡ r′
+wished-abort-one κs a r r′ s s′ p q = p ∙ sym q
+
+wished-separate-one : (κs : _) (a : _) (r r′ : _) (s s′ : _) → wished-separate-reads.Post κs a r s → wished-separate-reads.Post κs a r′ s′ → r ≡ r′
+wished-separate-one κs a r r′ s s′ p q = p ∙ sym q
