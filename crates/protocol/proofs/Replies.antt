@@ -26,7 +26,7 @@ use Rattle.state.specs.declared.Session.{Session}
 use Rattle.state.proofs.Listed.{listed, relisted}
 use Rattle.table.specs.Pick.{pick}
 use Rattle.table.specs.Answer.{answer, told, sent}
-use Rattle.table.specs.Table.{receivedAt, phaseNumber, whenSelected, replyOf, abortOf, wishOf, eventOf, stepOf}
+use Rattle.table.specs.Table.{receivedAt, phaseNumber, whenSelected, replyOf, repliedOf, wishOf, eventOf, stepOf}
 use Rattle.table.specs.declared.Stepped.{Stepped}
 use Rattle.table.specs.declared.Wish.the-variants.{Reply, Abort}
 use Rattle.table.specs.declared.Event.the-variants.{Wish as onWish}
@@ -44,11 +44,11 @@ module _ (t : Session) (n : ℕ) (ok : allows t ≡ true) (phase : phaseNumber t
   not-open r = pick-false (isThere (Named n) (t .device .received)) r (told 25 t) none
 
   no-reply : (later : List ℕ) → judgedOf later ≡ 0 → stepOf t (onWish (Reply n)) later ≡ told 25 t
-  unfolding stepOf eventOf wishOf replyOf
+  unfolding stepOf eventOf wishOf replyOf repliedOf
   no-reply later good = let-through _ ∙ pick-true (eqb (judgedOf later) 0) _ _ (eq-eqb (judgedOf later) 0 good) ∙ not-open _
 
   no-abort : (later : List ℕ) → stepOf t (onWish (Abort n)) later ≡ told 25 t
-  unfolding stepOf eventOf wishOf abortOf
+  unfolding stepOf eventOf wishOf repliedOf
   no-abort later = let-through _ ∙ not-open _
 
 -- ---- what goes out closes its slot
@@ -143,7 +143,7 @@ module _ (s : Session) (n f : ℕ) (text : Text) where
 
 module _ (s : Session) (n : ℕ) (text : List ℕ) (size : length (s .device .received) ≡ 32) where
   reply-goes : Goes s n (primaryAt s n .function + 1) Wished (stepOf s (onWish (Reply n)) text)
-  unfolding stepOf eventOf wishOf replyOf
+  unfolding stepOf eventOf wishOf replyOf repliedOf
   reply-goes =
       gate s n _ Wished _
       (λ ok phase.
@@ -151,7 +151,7 @@ module _ (s : Session) (n : ℕ) (text : List ℕ) (size : length (s .device .re
       (λ _. row s n _ Wished size ok phase) (λ _. silent s n _ Wished (judgedOf text)))
 
   abort-goes : Goes s n 0 Empty (stepOf s (onWish (Abort n)) text)
-  unfolding stepOf eventOf wishOf abortOf
+  unfolding stepOf eventOf wishOf repliedOf
   abort-goes = gate s n 0 Empty _ (row s n 0 Empty size)
 
   -- A REPLY THAT IS ASKED FOR GOES OUT ONLY FOR A RECEIVED PRIMARY THAT IS STILL OPEN, with its stream, system bytes and function one more, and closes it;

@@ -18,7 +18,7 @@ use Rattle.state.specs.Listed.{allows}
 use Rattle.state.specs.declared.Session.{Session}
 use Rattle.table.specs.Pick.{pick}
 use Rattle.table.specs.Answer.{told}
-use Rattle.table.specs.Table.{rejectedOf, selectOf, deselectOf, linktestedOf, separatedOf, s9Of, complainOf, secondaryOf, openedOf, primaryOf, dataOf, dataWhen, kindOf, cameOf, connectOf, disconnectOf, flagOf, phaseNumber, whenSelected, whenGood, sendOf, primaryWishOf, replyOf, abortOf, linktestOf, separateOf, wishOf, t3Of, t6Of, t7Of, t8Of, timerOf, eventOf, stepOf}
+use Rattle.table.specs.Table.{rejectedOf, selectOf, deselectOf, linktestedOf, separatedOf, s9Of, complainOf, secondaryOf, openedOf, primaryOf, dataOf, dataWhen, kindOf, cameOf, connectOf, disconnectOf, flagOf, phaseNumber, whenSelected, whenGood, sendOf, primaryWishOf, replyOf, repliedOf, linktestOf, separateOf, wishOf, t3Of, t6Of, t7Of, t8Of, timerOf, eventOf, stepOf}
 use Rattle.table.specs.declared.Stepped.{Stepped}
 use Rattle.table.specs.declared.Timer.{Timer}
 use Rattle.table.specs.declared.Timer.the-variants.{T3, T6, T7, T8}
@@ -69,7 +69,7 @@ module _ (s : Session) (text : List ℕ) where
     when-good r z d = either _ _ _ d (judges z refl)
 
   wish-does : (w : Wish) → Does s (onWish w) text (wishOf s w text)
-  unfolding wishOf connectOf disconnectOf flagOf primaryWishOf sendOf replyOf abortOf linktestOf separateOf
+  unfolding wishOf connectOf disconnectOf flagOf primaryWishOf sendOf replyOf repliedOf linktestOf separateOf
   wish-does Connect = either _ _ _ (stays 21 refl refl) (links refl refl refl)
   wish-does Disconnect = either _ _ _ (links refl refl refl) (stays 20 refl refl)
   wish-does (Flag m b) = either _ _ _ (either _ _ _ (links refl refl refl) (stays 23 refl refl)) (stays 23 refl refl)

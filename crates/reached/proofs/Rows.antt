@@ -16,7 +16,7 @@ use Rattle.message.specs.declared.Received.the-variants.{Reject, OtherPType, Ot
 use Rattle.state.specs.State.{connected, selected}
 use Rattle.state.specs.declared.Session.{Session}
 use Rattle.table.specs.Pick.{pick}
-use Rattle.table.specs.Table.{rejectedOf, selectOf, deselectOf, linktestedOf, separatedOf, s9Of, complainOf, secondaryOf, openedOf, primaryOf, dataOf, dataWhen, kindOf, cameOf, connectOf, disconnectOf, flagOf, phaseNumber, sendOf, primaryWishOf, replyOf, abortOf, linktestOf, separateOf, wishOf, t3Of, t6Of, t7Of, t8Of, timerOf, eventOf, stepOf}
+use Rattle.table.specs.Table.{rejectedOf, selectOf, deselectOf, linktestedOf, separatedOf, s9Of, complainOf, secondaryOf, openedOf, primaryOf, dataOf, dataWhen, kindOf, cameOf, connectOf, disconnectOf, flagOf, phaseNumber, sendOf, primaryWishOf, replyOf, repliedOf, linktestOf, separateOf, wishOf, t3Of, t6Of, t7Of, t8Of, timerOf, eventOf, stepOf}
 use Rattle.table.specs.declared.Stepped.{Stepped}
 use Rattle.table.specs.declared.Timer.{Timer}
 use Rattle.table.specs.declared.Timer.the-variants.{T3, T6, T7, T8}
@@ -125,7 +125,7 @@ module _ (s : Session) (k : Kept s) where
   flag-stays m b = by-pick Stays _ _ _ (λ some. either _ _ _ (kept-flag k m b (leb-true 1 m some)) k) (λ none. k)
 
   wish-stays : (w : Wish) (text : List ℕ) → Stays (wishOf s w text)
-  unfolding wishOf disconnectOf primaryWishOf replyOf abortOf separateOf
+  unfolding wishOf disconnectOf primaryWishOf replyOf repliedOf separateOf
   wish-stays Connect text = connect-stays
   wish-stays Disconnect text = either _ _ _ (kept-gone k) k
   wish-stays (Flag m b) text = flag-stays m b

@@ -1,2 +1,1 @@
-pub mod OfStream
 pub mod Determined

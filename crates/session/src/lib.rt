@@ -18,9 +18,7 @@ fn reply(s: Session, n: u32) -> Stepped
     let at = slots::find(received, Query::Named(n));
     if at < 32 {
         let x = received[at];
-        let f = x.function + 1;
-        let t = state::with_received(s, slots::with_slot(received, at, slots::free_slot()));
-        return table::answer_of(0, t, table::sent_of(s, false, x.stream, f, n, Text::Wished));
+        return sending::replied(s, n, x.function + 1, Text::Wished);
     }
     table::told_of(25, s)
 }
@@ -48,9 +46,9 @@ fn wished(s: Session, w: Wish, text: &[u8]) -> Stepped
         Wish::Connect => wishes::connect(s),
         Wish::Disconnect => wishes::disconnect(s),
         Wish::Flag(m, b) => wishes::flag(s, m, b),
-        Wish::Primary(w, m, f) => wishes::wished_primary(s, w, m, f, text),
+        Wish::Primary(w, m, f) => sending::wished_primary(s, w, m, f, text),
         Wish::Reply(n) => wished_reply(s, n, text),
-        Wish::Abort(n) => wishes::wished_abort(s, n),
+        Wish::Abort(n) => sending::wished_abort(s, n),
         Wish::Linktest => wishes::linktest(s),
         Wish::Separate => wishes::wished_separate(s),
     }

@@ -13,6 +13,7 @@ use Rattle.text.specs.Text.{judgedOf}
 use Rattle.message.specs.Message.{control, response, reject}
 use Rattle.message.specs.declared.Received.{Received}
 use Rattle.message.specs.declared.Received.the-variants.{Reject, OtherPType, OtherSType, SelectReq, SelectRsp, DeselectReq, DeselectRsp, LinktestReq, LinktestRsp, SeparateReq, Data}
+use Rattle.message.specs.declared.Text.{Text}
 use Rattle.message.specs.declared.Text.the-variants.{Empty, About, Wished}
 use Rattle.state.specs.State.{connected, selected, withPhase, withTest, withReceived, withOwn, withFlag, deselected, gone, fresh, numbered}
 use Rattle.table.specs.Answer.{answer, told, sent}
@@ -173,20 +174,20 @@ sendOf s w m f =
 unfoldable pub primaryWishOf : Session → Bool → ℕ → ℕ → Stepped
 primaryWishOf s w m f = pick (isPrimary m f) (sendOf s w m f) (told 23 s)
 
--- a reply copies the system bytes, same stream, function one more, or 0 without text, and frees the slot; no received slot with these system bytes, 25
-unfoldable pub replyOf : Session → ℕ → Stepped
-replyOf s n =
+-- a reply copies the system bytes, with the same stream, and frees the slot; no received slot with these system bytes, 25
+unfoldable pub repliedOf : Session → ℕ → ℕ → Text → Stepped
+repliedOf s n f text =
     pick (isThere (Named n) (s .device .received))
     (answer 0 (withReceived s (set (s .device .received) (receivedAt s n) free))
-    (sent s false (getD (s .device .received) (receivedAt s n) free .stream) (getD (s .device .received) (receivedAt s n) free .function + 1) n Wished))
+    (sent s false (getD (s .device .received) (receivedAt s n) free .stream) f n text))
     (told 25 s)
 
-unfoldable pub abortOf : Session → ℕ → Stepped
-abortOf s n =
-    pick (isThere (Named n) (s .device .received))
-    (answer 0 (withReceived s (set (s .device .received) (receivedAt s n) free))
-    (sent s false (getD (s .device .received) (receivedAt s n) free .stream) 0 n Empty))
-    (told 25 s)
+-- function one more, or 0 without text as an abort
+unfoldable pub replyOf : Session → ℕ → Stepped
+replyOf s n = repliedOf s n (getD (s .device .received) (receivedAt s n) free .function + 1) Wished
+
+abbrev pub abortOf : Session → ℕ → Stepped
+abortOf s n = repliedOf s n 0 Empty
 
 -- linktest and separate: session ID FFFF, fresh number; a linktest that already runs, 26
 unfoldable pub linktestOf : Session → Stepped

@@ -5,8 +5,6 @@ use Rattle.wishes.proofs.disconnect.Reads as disconnect-reads
 use Rattle.wishes.proofs.flag.Reads as flag-reads
 use Rattle.wishes.proofs.phase_number.Reads as phase-number-reads
 use Rattle.wishes.proofs.linktest.Reads as linktest-reads
-use Rattle.wishes.proofs.wished_primary.Reads as wished-primary-reads
-use Rattle.wishes.proofs.wished_abort.Reads as wished-abort-reads
 use Rattle.wishes.proofs.wished_separate.Reads as wished-separate-reads
 
 connect-one : (κs : _) (a : _) (r r′ : _) (s s′ : _) → connect-reads.Post κs a r s → connect-reads.Post κs a r′ s′ → r ≡ r′
@@ -23,12 +21,6 @@ phase-number-one κs a r r′ s s′ p q = p ∙ sym q
 
 linktest-one : (κs : _) (a : _) (r r′ : _) (s s′ : _) → linktest-reads.Post κs a r s → linktest-reads.Post κs a r′ s′ → r ≡ r′
 linktest-one κs a r r′ s s′ p q = p ∙ sym q
-
-wished-primary-one : (κs : _) (a : _) (r r′ : _) (s s′ : _) → wished-primary-reads.Post κs a r s → wished-primary-reads.Post κs a r′ s′ → r ≡ r′
-wished-primary-one κs a r r′ s s′ p q = p ∙ sym q
-
-wished-abort-one : (κs : _) (a : _) (r r′ : _) (s s′ : _) → wished-abort-reads.Post κs a r s → wished-abort-reads.Post κs a r′ s′ → r ≡ r′
-wished-abort-one κs a r r′ s s′ p q = p ∙ sym q
 
 wished-separate-one : (κs : _) (a : _) (r r′ : _) (s s′ : _) → wished-separate-reads.Post κs a r s → wished-separate-reads.Post κs a r′ s′ → r ≡ r′
 wished-separate-one κs a r r′ s s′ p q = p ∙ sym q

@@ -1,6 +1,12 @@
 -- The definition asks the same tests, and each answer is built by calls that promise its parts.
 use native.Mathlib.Omega.{arith}
 use borrow.Author.Needs.{needs}
+use Prim.Native.Nat.{ℕ}
+use mathlib.Core.Path.{ap}
+use lib.ListN.{set}
+use Rattle.slots.specs.Slots.{free}
+use Rattle.state.specs.State.{withOwn}
+use Rattle.table.specs.Answer.{told}
 use Rattle.table.proofs.Cases.{first, second, told-so, there, absent}
 use Rattle.table.specs.Table.{rejectedOf}
 use Rattle.control.proofs.rejected.Statement.{statement}
@@ -24,8 +30,11 @@ told-of-requires c κs = search needs
 returns : tie.Need-returns
 unfolding rejectedOf
 returns c =
-    first _ _ _ (there _ _ _ (c .before .before .before .before .before .find .ensures) (omega arith))
-    (rw (c .told-of .ensures, c .before .with-own .ensures, c .before .before .with-slot .ensures, c .before .before .before .free-slot .ensures, c .before .before .before .before .before .find .ensures))
+    let s = c .before .before .before .before .before .before .before .before .args .s in
+    let e = c .before .before .before .before .before .find .ensures in
+    first _ _ _ (there _ _ _ e (omega arith))
+    (rw (c .told-of .ensures, c .before .with-own .ensures, c .before .before .with-slot .ensures, c .before .before .before .free-slot .ensures)
+    (ap (λ (i : ℕ). told 34 (withOwn s (set (s .device .own) i free))) e))
 
 is-running-requires : tie.Need-is-running-requires
 is-running-requires c κs = search needs

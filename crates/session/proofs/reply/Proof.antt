@@ -2,8 +2,8 @@
 use Rattle.slots.proofs.Allowed.{function-small}
 use native.Mathlib.Omega.{arith}
 use borrow.Author.Needs.{needs}
-use Rattle.table.proofs.Cases.{first, second, there, absent}
-use Rattle.table.specs.Table.{replyOf}
+use Rattle.table.proofs.Cases.{second, absent}
+use Rattle.table.specs.Table.{replyOf, repliedOf}
 use Rattle.session.proofs.reply.Statement.{statement}
 use Rattle.session.proofs.reply.Tie as tie
 
@@ -16,35 +16,21 @@ mul-x c = search needs
 array-copy-out-x : tie.Need-array-copy-out-x
 array-copy-out-x c = search needs
 
-add-f : tie.Need-add-f
-add-f c = omega (arith, function-small (c .before .before .before .before .before .before .args .s .device .received) (c .before .before .before .find .result) (c .before .before .before .before .before .before .pre) (c .before .before .if1 .taken))
+add-replied : tie.Need-add-replied
+add-replied c = omega (arith, function-small (c .before .before .before .before .before .before .args .s .device .received) (c .before .before .before .find .result) (c .before .before .before .before .before .before .pre) (c .before .before .if1 .taken))
 
-free-slot-requires : tie.Need-free-slot-requires
-free-slot-requires c κs = search needs
-
-with-slot-requires : tie.Need-with-slot-requires
-with-slot-requires c κs = search needs
-
-with-received-requires : tie.Need-with-received-requires
-with-received-requires c κs = search needs
-
-sent-of-requires : tie.Need-sent-of-requires
-sent-of-requires c κs = search needs
-
-answer-of-requires : tie.Need-answer-of-requires
-answer-of-requires c κs = search needs
+replied-requires : tie.Need-replied-requires
+replied-requires c κs = search needs
 
 returns : tie.Need-returns
-unfolding replyOf
-returns c =
-    first _ _ _ (there _ _ _ (c .before .before .before .before .before .before .before .before .find .ensures) (omega arith))
-    (rw (c .answer-of .ensures, c .before .sent-of .ensures, c .before .before .with-received .ensures, c .before .before .before .with-slot .ensures, c .before .before .before .before .free-slot .ensures, c .before .before .before .before .before .before .before .before .find .ensures))
+unfolding replyOf repliedOf
+returns c = rw (c .replied .ensures, c .before .before .before .before .find .ensures)
 
 told-of-requires : tie.Need-told-of-requires
 told-of-requires c κs = search needs
 
 returns-2 : tie.Need-returns-2
-unfolding replyOf
+unfolding replyOf repliedOf
 returns-2 c =
     second _ _ _ (absent _ _ _ (c .before .before .find .ensures) (omega arith))
     (rw (c .told-of .ensures))
@@ -56,12 +42,8 @@ reply-spec =
     find-requires
     mul-x
     array-copy-out-x
-    add-f
-    free-slot-requires
-    with-slot-requires
-    with-received-requires
-    sent-of-requires
-    answer-of-requires
+    add-replied
+    replied-requires
     returns
     told-of-requires
     returns-2)

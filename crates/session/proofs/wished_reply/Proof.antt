@@ -1,4 +1,7 @@
 -- The definition asks the same tests, and each answer is built by calls that promise its parts.
+use Prim.Native.Nat.{ℕ}
+use Rattle.table.specs.Answer.{told}
+use mathlib.Core.Path.{ap}
 use borrow.Author.Needs.{needs}
 use Rattle.table.proofs.Cases.{first, second, equal, other}
 use Rattle.session.proofs.wished_reply.Statement.{statement}
@@ -25,7 +28,7 @@ returns-2 : tie.Need-returns-2
 returns-2 c =
     first _ _ _ (equal _ 0 (c .before .before .before .before .phase-number .ensures) (c .before .before .before .if1 .left))
     (second _ _ _ (other _ 0 (c .before .before .judge .ensures) (c .before .if2 .taken))
-    (rw (c .told-of2 .ensures, c .before .before .judge .ensures)))
+    (rw (c .told-of2 .ensures) (ap (λ (n : ℕ). told n (c .before .before .before .before .before .before .args .s)) (c .before .before .judge .ensures))))
 
 reply-requires : tie.Need-reply-requires
 reply-requires c κs = search needs

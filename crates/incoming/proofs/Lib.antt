@@ -1,0 +1,2 @@
+pub mod OfStream
+pub mod Determined
