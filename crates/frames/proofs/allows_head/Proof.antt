@@ -1,11 +1,16 @@
 -- The tests are the definition's in its order.
+use mathlib.Core.Bool.{true, false}
+use mathlib.Core.Path.{_≡_, sym, _∙_}
+use native.Mathlib.Omega.{arith}
 use borrow.Author.Needs.{needs}
 use borrow.Author.Tests.{eq-eqb, ne-eqb, lt-ltb, le-ltb}
+use lib.ListN.{drop}
+use Rattle.frames.specs.Feed.{allZero}
 use Rattle.frames.proofs.allows_head.Statement.{statement}
 use Rattle.frames.proofs.allows_head.Tie as tie
 
 returns : tie.Need-returns
-returns c = rw (le-ltb _ _ (c .if1 .taken))
+returns c = rw (le-ltb (c .before .before .args .r .count) 14 (omega arith))
 
 all-zero-requires : tie.Need-all-zero-requires
 all-zero-requires c κs = search needs
@@ -13,12 +18,16 @@ all-zero-requires c κs = search needs
 returns-2 : tie.Need-returns-2
 returns-2 c =
     let b = c .before .before in
-    rw (lt-ltb _ _ (b .before .if1 .left), ← b .all-zero .ensures, c .before .if2 .taken, ne-eqb _ _ (c .if3 .taken))
+    let r = b .before .before .before .args .r in
+    let zero : allZero (drop (r .count) (r .held)) ≡ true = sym (b .all-zero .ensures) ∙ c .before .if2 .taken in
+    rw (lt-ltb (r .count) 14 (omega arith), zero, ne-eqb (r .left) 0 (c .if3 .taken))
 
 returns-3 : tie.Need-returns-3
 returns-3 c =
     let b = c .before .before .before in
-    rw (lt-ltb _ _ (b .before .if1 .left), ← b .all-zero .ensures, c .before .before .if2 .taken, eq-eqb _ _ (c .before .if3 .left), lt-ltb _ _ (c .if4 .taken))
+    let r = b .before .before .before .args .r in
+    let zero : allZero (drop (r .count) (r .held)) ≡ true = sym (b .all-zero .ensures) ∙ c .before .before .if2 .taken in
+    rw (lt-ltb (r .count) 14 (omega arith), zero, eq-eqb (r .left) 0 (omega arith), lt-ltb (r .count) 4 (omega arith))
 
 slice-aggregate-length-in : tie.Need-slice-aggregate-length-in
 slice-aggregate-length-in c = search needs
@@ -31,13 +40,18 @@ length-number-requires c κs = search needs
 
 returns-4 : tie.Need-returns-4
 returns-4 c =
-    let t = c .before .before .before in
-    let b = t .before .before .before in
-    rw (lt-ltb _ _ (b .before .if1 .left), ← b .all-zero .ensures, t .before .before .if2 .taken, eq-eqb _ _ (t .before .if3 .left), le-ltb _ _ (t .if4 .left), c .length-number .ensures, c .before .length-in .ensures .0)
+    let t = c .before .before .before .before .before in
+    let b = t .before in
+    let r = b .before .before .before .args .r in
+    let zero : allZero (drop (r .count) (r .held)) ≡ true = sym (b .all-zero .ensures) ∙ t .if2 .taken in
+    rw (lt-ltb (r .count) 14 (omega arith), zero, eq-eqb (r .left) 0 (omega arith), le-ltb (r .count) 4 (omega arith), c .length-number .ensures, c .before .length-in .ensures .0)
 
 returns-5 : tie.Need-returns-5
 returns-5 c =
-    rw (lt-ltb _ _ (c .before .before .if1 .left), ← c .before .all-zero .ensures, c .if2 .left)
+    let b = c .before in
+    let r = b .before .before .before .args .r in
+    let some : allZero (drop (r .count) (r .held)) ≡ false = sym (b .all-zero .ensures) ∙ c .if2 .left in
+    rw (lt-ltb (r .count) 14 (omega arith), some)
 
 pub allows-head-spec : {M : Type 1} → statement M
 allows-head-spec =

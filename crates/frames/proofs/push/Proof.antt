@@ -1,7 +1,7 @@
 -- The byte is stored behind those that are held; the fourth is judged by the length, the last with the header, and after any other the head goes on.
 use borrow.Author.Needs.{needs}
 use Prim.Native.Nat.{ℕ}
-use mathlib.Core.Path.{_≡_, sym, ap, _∙_}
+use mathlib.Core.Path.{_≡_, refl, sym, ap, _∙_}
 use mathlib.Core.List.{[], _∷_, _++_}
 use mathlib.Core.Logic.{⊎-elim}
 use native.Mathlib.Omega.{arith}
@@ -69,7 +69,7 @@ returns-3 c =
     let short : length t ≡ 14 → ⊥ = λ e. c .before .if1 .left (omega (arith, e, n .size)) in
     let none : headNumber t ≡ 0 =
     ⊎-elim (λ w. sym (fourth n (w .0 .taken) (w .2 .ensures .0) (w .3 .ensures)) ∙ w .4 .left) (λ w. number-other t (λ e. w .left (omega (arith, e, n .size))) short) (c .if2 .came) in
-    rw (n .array, ← n .size) (pushed-more t none short)
+    rw (n .array, ← pushed-more t none short, n .size) refl
 
 pub push-spec : {M : Type 1} → statement M
 push-spec =

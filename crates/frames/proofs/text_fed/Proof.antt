@@ -1,4 +1,5 @@
 -- The two tests are the definition's, and the smaller of the two counts is taken.
+use native.Mathlib.Omega.{arith}
 use borrow.Author.Needs.{needs}
 use borrow.Author.Tests.{eq-eqb, ne-eqb}
 use Rattle.frames.specs.State.{readerOf}
@@ -11,14 +12,16 @@ fresh-reader-requires c κs = search needs
 
 returns : tie.Need-returns
 unfolding textFed
-returns c = rw (c .fresh-reader .ensures, eq-eqb _ _ (c .before .if1 .taken))
+returns c = rw (c .fresh-reader .ensures, eq-eqb (c .before .before .args .left) 0 (omega arith))
 
 bare-requires : tie.Need-bare-requires
 bare-requires c κs = search needs
 
 returns-2 : tie.Need-returns-2
 unfolding textFed readerOf
-returns-2 c = rw (c .bare .ensures, ne-eqb _ _ (c .before .before .if1 .left), eq-eqb _ _ (c .before .if2 .taken))
+returns-2 c =
+    let b = c .before .before in
+    rw (c .bare .ensures, ne-eqb (b .before .args .left) 0 (b .if1 .left), eq-eqb (b .before .args .size) 0 (omega arith))
 
 smaller-requires : tie.Need-smaller-requires
 smaller-requires c κs = search needs
@@ -33,7 +36,8 @@ returns-3 : tie.Need-returns-3
 unfolding textFed readerOf
 returns-3 c =
     let b = c .before .before in
-    rw (c .bare2 .ensures, c .before .smaller .ensures, ne-eqb _ _ (b .before .if1 .left), ne-eqb _ _ (b .if2 .left))
+    let a = b .before .before .args in
+    rw (c .bare2 .ensures, c .before .smaller .ensures, ne-eqb (a .left) 0 (b .before .if1 .left), ne-eqb (a .size) 0 (b .if2 .left))
 
 pub text-fed-spec : {M : Type 1} → statement M
 text-fed-spec =

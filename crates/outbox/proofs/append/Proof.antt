@@ -58,7 +58,8 @@ returns-3 : tie.Need-returns-3
 unfolding appendOf
 returns-3 c =
     let n = c .before .before in
-    (rw (whole (n .before), ← n .frame-number .ensures, eq-eqb _ _ (c .before .if2 .left), lt-leb _ _ (c .if3 .taken)), refl)
+    let a = n .before .before .before .before .before .before .args in
+    (rw (whole (n .before), ← n .frame-number .ensures, eq-eqb (n .frame-number .result) 0 (omega arith), lt-leb (length (a .frame .now)) (length (a .outbox .now) - a .used) (omega arith)), refl)
 
 add-end : tie.Need-add-end
 add-end c = search needs
@@ -85,7 +86,7 @@ returns-4 c =
     let n = t .before .before in
     let w = whole (n .before) in
     let a = n .before .before .before .before .before .before .args in (
-      rw (w, ← n .frame-number .ensures, eq-eqb _ _ (t .before .if2 .left), le-leb _ _ (t .if3 .left)),
+      rw (w, ← n .frame-number .ensures, eq-eqb (n .frame-number .result) 0 (omega arith), le-leb (length (a .frame .now)) (length (a .outbox .now) - a .used) (omega arith)),
       placed (a .outbox .now) (a .frame .now) _ (a .used) (omega (arith, held _ _ w .0, t .if3 .left)) (c .before .before .copy .ensures),
     )
 

@@ -18,11 +18,11 @@ add-result c = omega (arith, c .before .length-bytes .ensures, counted (c .befor
 
 returns : tie.Need-returns
 unfolding rowSize contentSize
-returns c = rw (eq-eqb _ _ (c .if1 .taken), ← c .before .length-bytes .ensures) (omega arith)
+returns c = rw (eq-eqb (c .before .before .args .code) 0 (omega arith), ← c .before .length-bytes .ensures) (omega arith)
 
 returns-2 : tie.Need-returns-2
 unfolding rowSize contentSize
-returns-2 c = rw (ne-eqb _ _ (c .if1 .left), ← c .before .length-bytes .ensures) (omega arith)
+returns-2 c = rw (ne-eqb (c .before .before .args .code) 0 (c .if1 .left), ← c .before .length-bytes .ensures) (omega arith)
 
 pub lean-size-spec : {M : Type 1} → statement M
 lean-size-spec = tie.close (tie.spec length-bytes-requires add-header add-result returns returns-2)

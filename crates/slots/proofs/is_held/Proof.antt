@@ -1,7 +1,10 @@
 -- The definition asks the same two tests.
+use native.Mathlib.Omega.{arith}
 use borrow.Author.Needs.{needs}
 use borrow.Author.Tests.{lt-ltb, le-ltb}
+use Rattle.slots.specs.Slots.{foundAt}
 use Rattle.slots.specs.Fresh.{isHeld}
+use Rattle.slots.specs.declared.Query.the-variants.{Named}
 use Rattle.slots.proofs.is_held.Statement.{statement}
 use Rattle.slots.proofs.is_held.Tie as tie
 
@@ -10,14 +13,20 @@ find-requires c κs = search needs
 
 returns : tie.Need-returns
 unfolding isHeld
-returns c = rw (← c .before .find .ensures, lt-ltb _ _ (c .if1 .taken))
+returns c =
+    let f = c .before in
+    let a = f .before .args in
+    rw (lt-ltb (foundAt (Named (a .system)) (a .own)) 32 (omega (arith, f .find .ensures)))
 
 is-running-requires : tie.Need-is-running-requires
 is-running-requires c κs = search needs
 
 returns-2 : tie.Need-returns-2
 unfolding isHeld
-returns-2 c = rw (← c .before .before .find .ensures, le-ltb _ _ (c .before .if1 .left)) (c .is-running .ensures)
+returns-2 c =
+    let f = c .before .before in
+    let a = f .before .args in
+    rw (le-ltb (foundAt (Named (a .system)) (a .own)) 32 (omega (arith, f .find .ensures))) (c .is-running .ensures)
 
 pub is-held-spec : {M : Type 1} → statement M
 is-held-spec = tie.close (tie.spec find-requires returns is-running-requires returns-2)

@@ -17,11 +17,11 @@ add-result c = search needs
 
 returns : tie.Need-returns
 unfolding contentSize
-returns c = rw (eq-eqb _ _ (c .if1 .taken)) (omega arith)
+returns c = rw (eq-eqb (c .before .before .args .r .code) 0 (omega arith)) (omega arith)
 
 returns-2 : tie.Need-returns-2
 unfolding contentSize
-returns-2 c = rw (ne-eqb _ _ (c .before .if1 .left))
+returns-2 c = rw (ne-eqb (c .before .before .before .args .r .code) 0 (c .before .if1 .left))
 
 pub behind-spec : {M : Type 1} → statement M
 behind-spec = tie.close (tie.spec cast-place cast-result add-result returns returns-2)

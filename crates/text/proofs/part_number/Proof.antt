@@ -1,6 +1,9 @@
 -- One line of the definition for each kind.
 use borrow.Author.Needs.{needs}
+use Prim.Native.Nat.{_+_}
 use mathlib.Core.Path.{sym, _∙_}
+use native.Mathlib.Omega.{arith}
+use lib.ListN.{length}
 use borrow.Author.Tests.{le-leb, lt-leb}
 use Rattle.text.specs.Text.{partNumber}
 use Rattle.text.proofs.part_number.Statement.{statement}
@@ -37,11 +40,17 @@ returns-2 c = rw (sym (c .before .before .kind-of .ensures) ∙ c .enum-told2 .g
 
 returns-3 : tie.Need-returns-3
 unfolding partNumber
-returns-3 c = rw (sym (c .before .before .before .kind-of .ensures) ∙ c .before .enum-told3 .given .1, le-leb _ _ (c .if1 .taken))
+returns-3 c =
+    let k = c .before .before .before in
+    let a = k .before .before .before .before .args in
+    rw (sym (k .kind-of .ensures) ∙ c .before .enum-told3 .given .1, le-leb (a .r .place + a .r .length) (length (a .text .now)) (omega arith))
 
 returns-4 : tie.Need-returns-4
 unfolding partNumber
-returns-4 c = rw (sym (c .before .before .before .kind-of .ensures) ∙ c .before .enum-told3 .given .1, lt-leb _ _ (c .if1 .left))
+returns-4 c =
+    let k = c .before .before .before in
+    let a = k .before .before .before .before .args in
+    rw (sym (k .kind-of .ensures) ∙ c .before .enum-told3 .given .1, lt-leb (a .r .place + a .r .length) (length (a .text .now)) (omega arith))
 
 pub part-number-spec : {M : Type 1} → statement M
 part-number-spec =

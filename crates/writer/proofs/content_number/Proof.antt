@@ -1,8 +1,11 @@
 -- The three tests are the definition's; the part that is looked at is the row's content.
 use borrow.Author.Needs.{needs}
+use Prim.Native.Nat.{_+_}
 use mathlib.Core.Path.{_≡_, sym, ap, ap₂, _∙_}
 use mathlib.Core.Bool.{Bool, cond}
+use native.Mathlib.Omega.{arith}
 use borrow.Author.Tests.{le-leb, lt-leb}
+use lib.ListN.{length}
 use Rattle.item.specs.Code.{largest}
 use Rattle.rows.specs.Row.{partAt}
 use Rattle.rows.proofs.Tables.{part-between}
@@ -21,7 +24,7 @@ by-bytes c =
     let s = start c .args .content .now in
     let r = start c .args .r in
     let m : c .all-at-most .result ≡ atMost (largest (r .code)) (partAt s r) = c .all-at-most .ensures ∙ ap₂ atMost (c .before .largest-byte .ensures) (part-between s r) in
-    rw (sym (d .before .before .is-allowed .ensures) ∙ d .before .if1 .taken, le-leb _ _ (d .if2 .left)) (ap (λ (b : Bool). cond b 0 6) (sym m))
+    rw (sym (d .before .before .is-allowed .ensures) ∙ d .before .if1 .taken, le-leb (r .place + r .length) (length s) (omega arith)) (ap (λ (b : Bool). cond b 0 6) (sym m))
 
 cast-from : tie.Need-cast-from
 cast-from c = search needs
@@ -37,7 +40,10 @@ is-allowed-requires c κs = search needs
 
 returns : tie.Need-returns
 unfolding contentNumber
-returns c = rw (sym (c .before .before .is-allowed .ensures) ∙ c .before .if1 .taken, lt-leb _ _ (c .if2 .taken))
+returns c =
+    let d = c .before .before in
+    let a = d .before .before .before .before .args in
+    rw (sym (d .is-allowed .ensures) ∙ c .before .if1 .taken, lt-leb (a .r .place + a .r .length) (length (a .content .now)) (omega arith))
 
 sub-all-at-most : tie.Need-sub-all-at-most
 sub-all-at-most c = search needs
