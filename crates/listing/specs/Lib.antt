@@ -1,0 +1,5 @@
+pub mod Decimal
+pub mod Line
+pub mod Listing
+pub mod Piece
+pub mod Calls

@@ -1,0 +1,114 @@
+//! A program's lines in and the lines it should print, with a count of each kind of case.
+
+use crate::session::{Row, ROWS};
+use std::collections::BTreeMap;
+
+#[derive(Default)]
+pub struct Book {
+    pub stdin: Vec<u8>,
+    pub stdout: String,
+    kinds: BTreeMap<String, usize>,
+    pub numbers: BTreeMap<u32, usize>,
+    pub rows: BTreeMap<Row, usize>,
+}
+
+pub fn hex(bytes: &[u8]) -> String {
+    bytes.iter().map(|byte| format!("{byte:02x}")).collect()
+}
+
+impl Book {
+    fn line_in(&mut self, line: &str) {
+        self.stdin.extend(line.as_bytes());
+        self.stdin.push(b'\n');
+    }
+
+    pub fn line_out(&mut self, line: &str) {
+        self.stdout.push_str(line);
+        self.stdout.push('\n');
+    }
+
+    /// A name for the lines behind it.
+    pub fn name(&mut self, name: &str) {
+        let line = format!("# {name}");
+        self.line_in(&line);
+        self.line_out(&line);
+    }
+
+    /// A record's line in: a letter and its fields.
+    pub fn record(&mut self, letter: char, fields: &[&[u8]]) {
+        let mut line = letter.to_string();
+        for field in fields.iter().filter(|field| !field.is_empty()) {
+            line += " ";
+            line += &hex(field).to_uppercase();
+        }
+        self.line_in(&line);
+        self.kind(&format!("`{letter}`"));
+    }
+
+    /// A line in that is written otherwise than `record` would.
+    pub fn odd_record(&mut self, line: &str) {
+        self.line_in(line);
+        self.kind("written oddly");
+    }
+
+    pub fn bad_records(&mut self, lines: &[&str]) {
+        self.name("bad records");
+        for line in lines {
+            self.line_in(line);
+            self.line_out("bad record");
+            self.kind("bad");
+        }
+    }
+
+    /// One more case of a kind.
+    pub fn kind(&mut self, kind: &str) {
+        *self.kinds.entry(kind.to_string()).or_default() += 1;
+    }
+
+    /// One more answer of a number.
+    pub fn number(&mut self, number: u32) {
+        if number != 0 {
+            *self.numbers.entry(number).or_default() += 1;
+        }
+    }
+
+    pub fn row(&mut self, row: Row) {
+        *self.rows.entry(row).or_default() += 1;
+    }
+
+    pub fn refused<T>(&mut self, result: &Result<T, u32>) {
+        if let Err(number) = result {
+            self.number(*number);
+        }
+    }
+}
+
+/// An answer of a call that can refuse.
+pub fn answer(result: &Result<usize, u32>) -> String {
+    match result {
+        Ok(number) => number.to_string(),
+        Err(number) => format!("refused\t{number}"),
+    }
+}
+
+/// The page that tells how many cases there are.
+pub fn counts(books: &[(&str, Book)]) -> String {
+    let mut page = String::from("# Cases\n\n| program | record or line | cases |\n|---|---|---|\n");
+    for (name, book) in books {
+        for (kind, cases) in &book.kinds {
+            page += &format!("| {name} | {kind} | {cases} |\n");
+        }
+    }
+    page += "\n| program | number | answers |\n|---|---|---|\n";
+    for (name, book) in books {
+        for (number, answers) in &book.numbers {
+            page += &format!("| {name} | {number} | {answers} |\n");
+        }
+    }
+    page += "\n| row of the session table | events |\n|---|---|\n";
+    for (row, says) in ROWS {
+        let events: usize = books.iter().filter_map(|(_, book)| book.rows.get(row)).sum();
+        page += &format!("| {says} | {events} |\n");
+    }
+    page
+}

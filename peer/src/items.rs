@@ -1,0 +1,92 @@
+//! The item: its codes, and what may stand in its length and content.
+
+pub const LIST: u32 = 0o00;
+pub const B: u32 = 0o10;
+pub const BOOLEAN: u32 = 0o11;
+pub const A: u32 = 0o20;
+
+pub const MOST_TEXT: usize = 32_000;
+pub const MOST_DEPTH: usize = 16;
+
+/// What the elements of a content are.
+#[derive(Clone, Copy, PartialEq, Eq)]
+pub enum Sort {
+    List,
+    Byte,
+    Signed,
+    Unsigned,
+    F4,
+    F8,
+}
+
+pub struct Kind {
+    pub name: &'static str,
+    pub code: u32,
+    pub width: u64,
+    pub sort: Sort,
+}
+
+const fn kind(name: &'static str, code: u32, width: u64, sort: Sort) -> Kind {
+    Kind { name, code, width, sort }
+}
+
+pub const KINDS: [Kind; 15] = [
+    kind("L", LIST, 1, Sort::List),
+    kind("B", B, 1, Sort::Byte),
+    kind("BOOLEAN", BOOLEAN, 1, Sort::Byte),
+    kind("A", A, 1, Sort::Byte),
+    kind("J", 0o21, 1, Sort::Byte),
+    kind("I1", 0o31, 1, Sort::Signed),
+    kind("U1", 0o51, 1, Sort::Unsigned),
+    kind("I2", 0o32, 2, Sort::Signed),
+    kind("U2", 0o52, 2, Sort::Unsigned),
+    kind("I4", 0o34, 4, Sort::Signed),
+    kind("F4", 0o44, 4, Sort::F4),
+    kind("U4", 0o54, 4, Sort::Unsigned),
+    kind("I8", 0o30, 8, Sort::Signed),
+    kind("F8", 0o40, 8, Sort::F8),
+    kind("U8", 0o50, 8, Sort::Unsigned),
+];
+
+pub fn kind_of(code: u32) -> Option<&'static Kind> {
+    KINDS.iter().find(|kind| kind.code == code)
+}
+
+/// 3 or 4, where an item of this kind and depth cannot have this length in any text.
+pub fn length_refusal(kind: &Kind, length: u64, depth: usize) -> Option<u32> {
+    if !length.is_multiple_of(kind.width) {
+        Some(3)
+    } else if kind.code == LIST && length > 0 && depth == MOST_DEPTH {
+        Some(4)
+    } else {
+        None
+    }
+}
+
+pub fn content_byte_is_good(code: u32, byte: u8) -> bool {
+    code != A || byte <= 0x7F
+}
+
+/// The fewest length bytes that hold a length.
+pub fn fewest(length: u64) -> usize {
+    match length {
+        0..=0xFF => 1,
+        0x100..=0xFFFF => 2,
+        _ => 3,
+    }
+}
+
+/// A format byte and so many length bytes.
+pub fn item_head(code: u32, length_bytes: usize, length: u64) -> Vec<u8> {
+    let mut head = vec![(code * 4) as u8 + length_bytes as u8];
+    head.extend(&length.to_be_bytes()[8 - length_bytes..]);
+    head
+}
+
+/// One item that is no list, in the fewest length bytes.
+pub fn item(code: u32, content: &[u8]) -> Vec<u8> {
+    let length = content.len() as u64;
+    let mut bytes = item_head(code, fewest(length), length);
+    bytes.extend(content);
+    bytes
+}

@@ -1,0 +1,64 @@
+//! Good texts of random trees.
+
+use crate::items::{fewest, item_head, kind_of, Kind, A, KINDS, LIST, MOST_DEPTH};
+use crate::random::Random;
+
+pub fn content(random: &mut Random, kind: &Kind, elements: usize) -> Vec<u8> {
+    let mask = if kind.code == A { 0x7F } else { 0xFF };
+    random.bytes(elements * kind.width as usize).iter().map(|byte| byte & mask).collect()
+}
+
+fn head(random: &mut Random, lean: bool, code: u32, length: u64) -> Vec<u8> {
+    let least = fewest(length);
+    let length_bytes = if lean || random.percent(70) { least } else { least + random.below(4 - least) };
+    item_head(code, length_bytes, length)
+}
+
+fn list(random: &mut Random, lean: bool, depth: usize, members: usize) -> Vec<u8> {
+    let mut bytes = head(random, lean, LIST, members as u64);
+    for _ in 0..members {
+        bytes.extend(item(random, lean, depth + 1));
+    }
+    bytes
+}
+
+/// One item; the deeper, the fewer lists, and no list has members at the last depth.
+fn item(random: &mut Random, lean: bool, depth: usize) -> Vec<u8> {
+    if depth < MOST_DEPTH && random.percent(70 / depth.min(3)) {
+        let members = random.below(5);
+        return list(random, lean, depth, members);
+    }
+    let picked = random.below(KINDS.len());
+    let kind = &KINDS[picked];
+    if kind.code == LIST {
+        return list(random, lean, depth, 0);
+    }
+    let most = random.pick(&[3, 3, 3, 3, 20]);
+    let elements = random.below(most + 1);
+    let bytes = content(random, kind, elements);
+    [head(random, lean, kind.code, bytes.len() as u64), bytes].concat()
+}
+
+/// A good text, with length bytes as they come, or the fewest.
+pub fn text(random: &mut Random, lean: bool) -> Vec<u8> {
+    let depth = if random.percent(15) { 1 + random.below(MOST_DEPTH) } else { 1 };
+    nested(depth, &item(random, lean, depth))
+}
+
+/// A member of an outer list.
+pub fn member(random: &mut Random) -> Vec<u8> {
+    item(random, false, 2)
+}
+
+/// A good text of exactly this size, one A item.
+pub fn plain_text(random: &mut Random, size: usize) -> Vec<u8> {
+    let length_bytes = fewest(size as u64 - 2);
+    let length = size - 1 - length_bytes;
+    let kind = kind_of(A).expect("A is known");
+    [item_head(A, length_bytes, length as u64), content(random, kind, length)].concat()
+}
+
+/// Lists of one member down to this depth, then an item.
+pub fn nested(depth: usize, inner: &[u8]) -> Vec<u8> {
+    [[0x01, 0x01].repeat(depth - 1), inner.to_vec()].concat()
+}
