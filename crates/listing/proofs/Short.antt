@@ -2,11 +2,13 @@
 use Prim.Native.Nat.{ℕ, _+_, _*_, _≤_}
 use mathlib.Core.Bool.{Bool, true, false, cond}
 use mathlib.Core.List.{List, [], _∷_, _++_}
+use mathlib.Core.Path.{_≡_, ap, _∙_}
 use native.Mathlib.Omega.{arith}
 use lib.Dec.{eqb}
 use lib.ListN.{length, length-append}
+use lib.Seq.{sets, length-sets}
 use Rattle.frame.specs.declared.Header.{Header}
-use Rattle.frames.specs.Feed.{fedOf as frameFed}
+use Rattle.frames.specs.Feed.{endOf, fedOf as frameFed}
 use Rattle.frames.specs.declared.Event.{Event}
 use Rattle.frames.specs.declared.Event.the-variants as E
 use Rattle.frames.specs.declared.Fed.{Fed as FrameFed}
@@ -17,15 +19,18 @@ use Rattle.reader.specs.declared.Answer.the-variants as A
 use Rattle.reader.specs.declared.Fed.{Fed}
 use Rattle.reader.specs.declared.Phase.{Phase}
 use Rattle.reader.specs.declared.Phase.the-variants as P
-use Rattle.listing.specs.Line.{newline, numberField, nameField, fields, messageLine, itemLine, refusalLine}
-use Rattle.listing.specs.Listing.{Told, told, behind, withFrames, withText, oneMore, isData, itemAt, byAnswer, byEvent, refusedBy, textByte, headerCame, settled, fedByte, byteTold}
+use Rattle.listing.specs.Line.{newline, numberField, nameField, fields, lineOf, messageLine, itemLine, refusalLine, endLine}
+use Rattle.listing.specs.Listing.{Told, told, behind, withFrames, withText, oneMore, isData, itemAt, byAnswer, byEvent, refusedBy, textByte, headerCame, settled, fedByte, byteTold, endedBy, lastLine}
 use Rattle.listing.specs.declared.Lister.{Lister}
 use Rattle.listing.proofs.Fields.{field-short, fields-short, message-short}
 use Rattle.listing.proofs.Named.{name-short}
 
+two-short : (letter m n : ℕ) → length (lineOf letter (m ∷ n ∷ [])) ≤ 44
+two-short letter m n = omega (arith, length-append (fields (m ∷ n ∷ [])) (newline ∷ []), fields-short (m ∷ n ∷ []))
+
 refusal-short : (e : ℕ) (l : Lister) → length (refusedBy e l .lines) ≤ 44
 unfolding refusedBy refusalLine
-refusal-short e l = omega (arith, length-append (fields (e ∷ l .bytes ∷ [])) (newline ∷ []), fields-short (e ∷ l .bytes ∷ []))
+refusal-short e l = two-short 0x58 e (l .bytes)
 
 item-short : (depth code size : ℕ) → length (itemLine depth code size) ≤ 52
 unfolding itemLine
@@ -88,3 +93,15 @@ byte-short l b = go (l .stopped) (settled l) (frameFed (settled l .frames) (b �
     go : (t : Bool) (s : Lister) (f : FrameFed) → length (cond t (told l []) (byEvent (f .event) b (withFrames s (f .reader) (s .count) (oneMore (s .bytes)))) .lines) ≤ 193
     go true s f = omega arith
     go false s f = event-short (f .event) b _
+
+pub last-short : (l : Lister) → length (lastLine l) ≤ 44
+unfolding lastLine endedBy endLine refusalLine
+last-short l = go (l .stopped) (settled l) (endOf (settled l .frames)) (eqb (endOf (settled l .frames)) 0)
+  where
+    go : (a : Bool) (s : Lister) (e : ℕ) (b : Bool) → length (cond a [] (cond b (lineOf 0x45 (s .count ∷ s .bytes ∷ [])) (lineOf 0x58 (e ∷ s .bytes ∷ [])))) ≤ 44
+    go true s e b = omega arith
+    go false s e true = two-short 0x45 (s .count) (s .bytes)
+    go false s e false = two-short 0x58 e (s .bytes)
+
+pub last-kept : (l : Lister) (s t : List ℕ) → t ≡ sets s 0 (lastLine l) → length t ≡ length s
+last-kept l s t q = ap length q ∙ length-sets s 0 (lastLine l)
