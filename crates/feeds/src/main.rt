@@ -80,7 +80,12 @@ fn counts_in(b: &[u8]) -> [u32; 16] {
 fn reader_in(b: &[u8]) -> Reader {
     let left = records::word_at(b, 17) as usize;
     let value = records::word_at(b, 21) as usize;
-    let phase = phase_in(records::byte_at(b, 12), records::word_at(b, 13), left, value);
+    let phase = phase_in(
+        records::byte_at(b, 12),
+        records::word_at(b, 13),
+        left,
+        value,
+    );
     let awaited = counts_in(b);
     Reader {
         size: records::word_at(b, 0) as usize,

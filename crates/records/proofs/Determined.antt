@@ -12,6 +12,7 @@ use Rattle.records.proofs.half_at.Reads as half-at-reads
 use Rattle.records.proofs.word_at.Reads as word-at-reads
 use Rattle.records.proofs.double_at.Reads as double-at-reads
 use Rattle.records.proofs.room.Reads as room-reads
+use Rattle.records.proofs.blank.Reads as blank-reads
 
 bytes-in-one :
     (κs : _) (a : _) (r r′ : _) (s s′ : _) → bytes-in-reads.Post κs a r s → bytes-in-reads.Post κs a r′ s′
@@ -41,3 +42,6 @@ double-at-one κs a r r′ s s′ p q = p ∙ sym q
 
 room-one : (κs : _) (a : _) (r r′ : _) (s s′ : _) → room-reads.Post κs a r s → room-reads.Post κs a r′ s′ → r ≡ r′
 room-one κs a r r′ s s′ p q = p .0 ∙ sym (q .0)
+
+blank-one : (κs : _) (a : _) (r r′ : _) (s s′ : _) → blank-reads.Post κs a r s → blank-reads.Post κs a r′ s′ → r ≡ r′
+blank-one κs a r r′ s s′ p q = p .0 ∙ sym (q .0)

@@ -207,3 +207,10 @@ pub fn room() -> [u8; 1048576]
 {
     [0; 1048576]
 }
+
+// An output to write into, EE throughout.
+pub fn blank() -> [u8; 65536]
+    ensures { λ r. ⌜ (r ≡ Rattle.records.specs.Fields.blank) × (65536 ≡ length r) ⌝ }
+{
+    [0xEE; 65536]
+}
