@@ -1,6 +1,6 @@
 ghost use mathlib.Core.Bool.{true, cond};
 ghost use mathlib.Core.Path.{_≡_};
-ghost use Prim.Native.Nat.{_*_, _+_, _≤_, _<_, _^_};
+ghost use Prim.Native.Nat.{_*_, _+_, _≤_, _<_};
 ghost use lib.Dec.{ltb};
 ghost use lib.ListN.{length, take, drop, set};
 ghost use lib.Seq.{sets};
