@@ -1,11 +1,15 @@
 ghost use Prim.Native.Nat.{_≤_};
+use bytes::scan;
 use frame::Header;
 use frames::Event;
 use frames::FrameReader;
 use libc::STDIN_FILENO;
 use libc::STDOUT_FILENO;
 use outbox::Dropped;
+use records::Said;
 use wire::Counted;
+
+// ---- fields out
 
 fn put(s: &[u8]) {
     io::write_all(STDOUT_FILENO, s);
@@ -16,17 +20,18 @@ fn decimal(n: usize) {
     io::print_decimal(STDOUT_FILENO, n as u64);
 }
 
-fn bytes(s: &[u8]) {
+fn digits(s: &[u8]) {
+    let mut out = records::room();
     put(b"\t");
-    let mut i: usize = 0;
-    while i < s.len() {
-        put(b" ");
-        io::print_hex(STDOUT_FILENO, s[i] as u64, 2);
-        i += 1;
+    match records::hex_of(s, &mut out) {
+        Counted::Is(n) => if n <= out.len() {
+            put(&out[0..n]);
+        },
+        Counted::Refused(number) => decimal(number as usize),
     }
 }
 
-fn counted(c: Counted) {
+fn answer(c: Counted) {
     match c {
         Counted::Is(n) => decimal(n),
         Counted::Refused(number) => {
@@ -36,7 +41,45 @@ fn counted(c: Counted) {
     }
 }
 
-// session ID, PType, SType, byte 2, byte 3, system bytes
+// ---- what is kept
+
+struct Outbox {
+    bytes: [u8; 256],
+    used: usize,
+}
+
+struct Kept {
+    reader: FrameReader,
+    control: Outbox,
+    data: Outbox,
+}
+
+fn with_reader(k: Kept, reader: FrameReader) -> Kept {
+    let control = k.control;
+    let data = k.data;
+    Kept {
+        reader,
+        control,
+        data,
+    }
+}
+
+fn with_boxes(k: Kept, control: Outbox, data: Outbox) -> Kept {
+    let reader = k.reader;
+    Kept {
+        reader,
+        control,
+        data,
+    }
+}
+
+fn bad(k: Kept) -> Kept {
+    put(b"bad record\n");
+    k
+}
+
+// ---- the frame reader
+
 fn header_fields(h: Header) {
     decimal(h.session as usize);
     decimal(h.ptype as usize);
@@ -46,37 +89,45 @@ fn header_fields(h: Header) {
     decimal(h.system as usize);
 }
 
-// What a feed of a piece reached.
-fn event_line(e: Event, piece: &[u8]) {
+// What a feed reached, and the bytes that it consumed.
+fn event_line(e: Event, consumed: usize) {
     match e {
-        Event::More => put(b"more"),
+        Event::More => {
+            put(b"more");
+            decimal(consumed);
+        }
         Event::Header(h, n) => {
             put(b"header");
+            decimal(consumed);
             header_fields(h);
             decimal(n);
         }
         Event::Text(n) => {
             put(b"text");
-            if n <= piece.len() {
-                bytes(&piece[0..n]);
-            }
+            decimal(consumed);
+            decimal(n);
         }
-        Event::End => put(b"end"),
+        Event::End => {
+            put(b"end");
+            decimal(consumed);
+        }
         Event::Refusal(number) => {
             put(b"refused");
+            decimal(consumed);
             decimal(number as usize);
         }
     }
     put(b"\n");
 }
 
-fn is_refusal(e: Event) -> bool {
+// Whether what is left of a piece is fed again.
+fn goes_on(e: Event) -> bool {
     match e {
-        Event::Refusal(_) => true,
         Event::More => false,
-        Event::Header(_, _) => false,
-        Event::Text(_) => false,
-        Event::End => false,
+        Event::Header(_, _) => true,
+        Event::Text(_) => true,
+        Event::End => true,
+        Event::Refusal(_) => false,
     }
 }
 
@@ -86,272 +137,299 @@ fn smaller(m: usize, n: usize) -> usize
     if m <= n { m } else { n }
 }
 
-// The stream in pieces of so many bytes, what is left of a piece fed again: a line for each feed, then the bytes consumed and whether the stream may end so.
-fn feed_lines(s: &[u8], size: usize) {
-    put(b"stream");
-    decimal(s.len());
-    decimal(size);
-    put(b"\n");
-    let mut reader = frames::fresh_reader();
+// Feeds of a piece, at most. Each header or text that is reached consumes a byte, and at most one end follows it, so that a piece of half as many bytes needs no more.
+const FEEDS: usize = 1_048_578;
+
+fn piece(r: FrameReader, b: &[u8]) -> FrameReader {
+    let mut reader = r;
     let mut at: usize = 0;
-    let mut turns: usize = 0;
-    while turns < 300 {
-        let left = smaller(size, s.len() - at);
-        let piece = &s[at..at + left];
-        let f = frames::feed(reader, piece);
-        reader = f.reader;
+    let mut feeds: usize = 0;
+    while feeds < FEEDS {
+        let f = frames::feed(reader, &b[at..]);
         let event = f.event;
-        at += smaller(f.consumed, left);
-        event_line(event, piece);
-        if is_refusal(event) {
+        reader = f.reader;
+        event_line(event, f.consumed);
+        at += smaller(f.consumed, b.len() - at);
+        if goes_on(event) {
+            feeds += 1;
+        } else {
             break;
         }
-        if left == 0 {
-            break;
-        }
-        turns += 1;
     }
-    put(b"at");
-    decimal(at);
-    decimal(frames::end_number(reader) as usize);
+    reader
+}
+
+fn end(k: Kept) -> Kept {
+    let r = k.reader;
+    put(b"stream");
+    decimal(frames::end_number(r) as usize);
+    put(b"\n");
+    k
+}
+
+// ---- a frame written
+
+fn header_in(b: &[u8]) -> Header {
+    frame::header_of([
+        records::byte_at(b, 0),
+        records::byte_at(b, 1),
+        records::byte_at(b, 2),
+        records::byte_at(b, 3),
+        records::byte_at(b, 4),
+        records::byte_at(b, 5),
+        records::byte_at(b, 6),
+        records::byte_at(b, 7),
+        records::byte_at(b, 8),
+        records::byte_at(b, 9),
+    ])
+}
+
+fn write_line(h: Header, text: &[u8], out: &mut [u8]) {
+    put(b"frame");
+    answer(frame::write(h, text, out));
+    digits(out);
     put(b"\n");
 }
 
-// A header's bytes, and what they are again: the frame of it and a text, and the answer.
-fn write_line(h: Header, text: &[u8], room: usize) {
-    let mut out = [0xEEu8; 24];
-    put(b"write");
-    header_fields(frame::header_of(frame::header_bytes(h)));
-    bytes(text);
-    decimal(room);
-    write(h, text, &mut out, room);
-    bytes(&out);
-    put(b"\n");
-}
-
-fn write(h: Header, text: &[u8], out: &mut [u8], room: usize) {
+// header (10), room (2), text
+fn write(k: Kept, b: &[u8]) -> Kept {
+    if b.len() < 12 {
+        return bad(k);
+    }
+    let room = records::half_at(b, 10) as usize;
+    let mut out = records::blank();
     if room <= out.len() {
-        counted(frame::write(h, text, &mut out[0..room]));
+        write_line(header_in(b), &b[12..], &mut out[0..room]);
+    }
+    k
+}
+
+// ---- outboxes
+
+// used (4) behind which (1), then its bytes, EE behind them
+fn outbox_in(b: &[u8]) -> Outbox {
+    let used = records::word_at(b, 1) as usize;
+    let mut bytes = [0xEEu8; 256];
+    if 5 <= b.len() {
+        wire::copy(&mut bytes, &b[5..]);
+    }
+    Outbox { bytes, used }
+}
+
+fn make(k: Kept, b: &[u8]) -> Kept {
+    if b.len() < 5 {
+        return bad(k);
+    }
+    let which = records::byte_at(b, 0);
+    let made = outbox_in(b);
+    put(b"box");
+    decimal(which as usize);
+    decimal(made.used);
+    put(b"\n");
+    if which == 0 {
+        let data = k.data;
+        with_boxes(k, made, data)
+    } else {
+        let control = k.control;
+        with_boxes(k, control, made)
     }
 }
 
-fn append_line(outbox: &mut [u8], used: usize, f: &[u8]) -> usize {
-    put(b"append");
-    decimal(used);
-    bytes(f);
-    let c = outbox::append(outbox, used, f);
-    counted(c);
-    put(b"\n");
+fn used_after(c: Counted, used: usize) -> usize {
     match c {
         Counted::Is(n) => n,
         Counted::Refused(_) => used,
     }
 }
 
+fn appended(o: Outbox, frame: &[u8]) -> Outbox {
+    let used = o.used;
+    let mut bytes = o.bytes;
+    let c = outbox::append(&mut bytes, used, frame);
+    put(b"appended");
+    answer(c);
+    digits(&bytes);
+    put(b"\n");
+    Outbox {
+        bytes,
+        used: used_after(c, used),
+    }
+}
+
+// which (1), a frame
+fn append(k: Kept, b: &[u8]) -> Kept {
+    if b.len() < 1 {
+        return bad(k);
+    }
+    let control = k.control;
+    let data = k.data;
+    if records::byte_at(b, 0) == 0 {
+        with_boxes(k, appended(control, &b[1..]), data)
+    } else {
+        with_boxes(k, control, appended(data, &b[1..]))
+    }
+}
+
 fn next_line<'a>(control: &'a [u8], cused: usize, data: &'a [u8], dused: usize) {
     let mut number: u32 = 0;
-    put(b"next");
-    decimal(cused);
-    decimal(dused);
     let part = outbox::next(control, cused, data, dused, &mut number);
+    put(b"next");
     decimal(number as usize);
-    bytes(part);
+    digits(part);
     put(b"\n");
 }
 
-// The used counts of two outboxes.
-struct Used {
+fn next(k: Kept) -> Kept {
+    let control = k.control;
+    let data = k.data;
+    let c = control.bytes;
+    let d = data.bytes;
+    next_line(&c, control.used, &d, data.used);
+    k
+}
+
+// A drop's number, 0 for success, and the used counts after it.
+struct Counts {
+    number: u32,
     control: usize,
     data: usize,
 }
 
-fn drop_line(control: &mut [u8], data: &mut [u8], u: Used) -> Used {
-    let cused = u.control;
-    let dused = u.data;
-    put(b"drop");
-    decimal(cused);
-    decimal(dused);
-    match outbox::drop_next(control, cused, data, dused) {
-        Dropped::Control(n) => {
-            put(b"\tcontrol");
-            decimal(n);
-            put(b"\n");
-            Used {
-                control: n,
-                data: dused,
-            }
-        }
-        Dropped::Data(n) => {
-            put(b"\tdata");
-            decimal(n);
-            put(b"\n");
-            Used {
-                control: cused,
-                data: n,
-            }
-        }
-        Dropped::Refused(number) => {
-            put(b"\trefused");
-            decimal(number as usize);
-            put(b"\n");
-            u
-        }
+fn counts_after(r: Dropped, cused: usize, dused: usize) -> Counts {
+    match r {
+        Dropped::Control(n) => Counts {
+            number: 0,
+            control: n,
+            data: dused,
+        },
+        Dropped::Data(n) => Counts {
+            number: 0,
+            control: cused,
+            data: n,
+        },
+        Dropped::Refused(number) => Counts {
+            number,
+            control: cused,
+            data: dused,
+        },
     }
 }
 
-fn box_lines(control: &[u8], data: &[u8]) {
-    put(b"control");
-    bytes(control);
-    put(b"\ndata");
-    bytes(data);
+fn drop_line(n: Counts, control: &[u8], data: &[u8]) {
+    put(b"dropped");
+    decimal(n.number as usize);
+    decimal(n.control);
+    decimal(n.data);
+    digits(control);
+    digits(data);
     put(b"\n");
 }
 
-fn streams() {
-    let mut captured = io::buffer();
-    let n = io::read_full(STDIN_FILENO, &mut captured);
-    feed_lines(&captured[0..n], 1);
-    feed_lines(&captured[0..n], 7);
-    feed_lines(&captured[0..n], 4096);
-    feed_lines(b"", 5);
-    feed_lines(b"\x00\x00\x00\x09\x00", 5);
-    feed_lines(b"\x00\x00\x7D\x0B\x00", 2);
-    feed_lines(b"\x00\x00\x7D\x0A\x00", 3);
-    feed_lines(
-        b"\x00\x00\x00\x0B\xFF\xFF\x00\x00\x00\x05\x00\x00\x00\x01\x41",
-        6,
+fn drop_message(k: Kept) -> Kept {
+    let control = k.control;
+    let data = k.data;
+    let cused = control.used;
+    let dused = data.used;
+    let mut c = control.bytes;
+    let mut d = data.bytes;
+    let n = counts_after(
+        outbox::drop_next(&mut c, cused, &mut d, dused),
+        cused,
+        dused,
     );
-    feed_lines(
-        b"\x00\x00\x00\x0A\xFF\xFF\x00\x00\x00\x05\x00\x00\x00\x01",
-        14,
-    );
-    feed_lines(
-        b"\x00\x00\x00\x0C\x00\x01\x81\x0D\x00\x00\x00\x00\x00\x07\x01",
-        15,
-    );
-}
-
-fn written() {
-    let data = frame::data_header(1, true, 1, 13, 7);
-    let control = Header {
-        session: 0xFFFF,
-        byte2: 0,
-        byte3: 0,
-        ptype: 0,
-        stype: 5,
-        system: 0xFFFF_FFFF,
-    };
-    write_line(data, b"\x01\x00", 24);
-    write_line(data, b"\x01\x00", 16);
-    write_line(data, b"\x01\x00", 15);
-    write_line(data, b"", 14);
-    write_line(control, b"", 24);
-    write_line(control, b"\x41", 24);
-    write_line(
-        frame::data_header(0x1234, false, 127, 255, 0x1234_5678),
-        b"ABC",
-        24,
-    );
-}
-
-// Under four bytes; a length of 9; one of 32,011; a byte missing.
-fn refused(outbox: &mut [u8], used: usize) {
-    append_line(outbox, used, b"\x00\x00\x00");
-    append_line(
-        outbox,
-        used,
-        b"\x00\x00\x00\x09\xFF\xFF\x00\x00\x00\x05\x00\x00\x00",
-    );
-    append_line(
-        outbox,
-        used,
-        b"\x00\x00\x7D\x0B\xFF\xFF\x00\x00\x00\x05\x00\x00\x00",
-    );
-    append_line(
-        outbox,
-        used,
-        b"\x00\x00\x00\x0A\xFF\xFF\x00\x00\x00\x05\x00\x00\x00",
-    );
-}
-
-// A byte over; SType 5 with a text; used counts that do not end with a frame or lie outside.
-fn refused_too(outbox: &mut [u8], used: usize) {
-    append_line(
-        outbox,
-        used,
-        b"\x00\x00\x00\x0A\xFF\xFF\x00\x00\x00\x05\x00\x00\x00\x01\x02",
-    );
-    append_line(
-        outbox,
-        used,
-        b"\x00\x00\x00\x0B\xFF\xFF\x00\x00\x00\x05\x00\x00\x00\x01\x02",
-    );
-    append_line(
-        outbox,
-        1,
-        b"\x00\x00\x00\x0A\xFF\xFF\x00\x00\x00\x05\x00\x00\x00\x01",
-    );
-    append_line(
-        outbox,
-        41,
-        b"\x00\x00\x00\x0A\xFF\xFF\x00\x00\x00\x05\x00\x00\x00\x01",
-    );
-}
-
-fn outboxes() {
-    let mut control = [0xEEu8; 40];
-    let mut data = [0xEEu8; 40];
-    next_line(&control, 0, &data, 0);
-    let c1 = append_line(
-        &mut control,
-        0,
-        b"\x00\x00\x00\x0A\xFF\xFF\x00\x00\x00\x05\x00\x00\x00\x01",
-    );
-    refused(&mut control, c1);
-    refused_too(&mut control, c1);
-    let c2 = append_line(
-        &mut control,
-        c1,
-        b"\x00\x00\x00\x0A\xFF\xFF\x00\x00\x00\x06\x00\x00\x00\x02",
-    );
-    let c3 = append_line(
-        &mut control,
-        c2,
-        b"\x00\x00\x00\x0A\xFF\xFF\x00\x00\x00\x06\x00\x00\x00\x03",
-    );
-    let d1 = append_line(
-        &mut data,
-        0,
-        b"\x00\x00\x00\x0C\x00\x01\x81\x0D\x00\x00\x00\x00\x00\x07\x01\x00",
-    );
-    box_lines(&control, &data);
-    next_line(&control, c3, &data, d1);
-    next_line(&control, c3, &data, 3);
-    next_line(&control, 41, &data, 0);
-    let u1 = drop_line(
-        &mut control,
-        &mut data,
-        Used {
-            control: c3,
-            data: d1,
+    drop_line(n, &c, &d);
+    with_boxes(
+        k,
+        Outbox {
+            bytes: c,
+            used: n.control,
         },
-    );
-    box_lines(&control, &data);
-    let u2 = drop_line(&mut control, &mut data, u1);
-    next_line(&control, 0, &data, d1);
-    let u3 = drop_line(&mut control, &mut data, u2);
-    box_lines(&control, &data);
-    let u4 = drop_line(&mut control, &mut data, u3);
-    append_line(
-        &mut data,
-        u4.data,
-        b"\x00\x00\x00\x0B\x00\x01\x81\x0D\x00\x00\x00\x00\x00\x08\x41",
-    );
-    box_lines(&control, &data);
+        Outbox {
+            bytes: d,
+            used: n.data,
+        },
+    )
+}
+
+// ---- lines
+
+fn fresh(k: Kept) -> Kept {
+    put(b"fresh\n");
+    with_reader(k, frames::fresh_reader())
+}
+
+fn fed(k: Kept, b: &[u8]) -> Kept {
+    let r = k.reader;
+    with_reader(k, piece(r, b))
+}
+
+fn record(k: Kept, letter: u8, b: &[u8]) -> Kept {
+    match letter {
+        b'f' => fresh(k),
+        b'p' => fed(k, b),
+        b'e' => end(k),
+        b'w' => write(k, b),
+        b'b' => make(k, b),
+        b'a' => append(k, b),
+        b'n' => next(k),
+        b'd' => drop_message(k),
+        _ => bad(k),
+    }
+}
+
+fn line(k: Kept, l: &[u8]) -> Kept {
+    if l.len() == 0 {
+        return k;
+    }
+    let letter = l[0];
+    if letter == b'#' {
+        put(l);
+        put(b"\n");
+        return k;
+    }
+    let mut said = records::room();
+    match records::bytes_in(&l[1..], &mut said) {
+        Said::Bytes(n) => if n <= said.len() {
+            record(k, letter, &said[0..n])
+        } else {
+            bad(k)
+        },
+        Said::Wrong => bad(k),
+        Said::Long => bad(k),
+    }
+}
+
+fn at_first() -> Kept {
+    let empty = Outbox {
+        bytes: [0xEE; 256],
+        used: 0,
+    };
+    Kept {
+        reader: frames::fresh_reader(),
+        control: empty,
+        data: empty,
+    }
+}
+
+fn lines(input: &[u8]) {
+    let mut k = at_first();
+    let mut at: usize = 0;
+    while at < input.len() {
+        let end = scan::find(input, at, input.len(), b'\n');
+        k = line(k, &input[at..end]);
+        if end == input.len() {
+            break;
+        }
+        at = end + 1;
+    }
 }
 
 fn main() {
-    streams();
-    written();
-    outboxes();
+    let mut input = records::room();
+    let n = io::read_full(STDIN_FILENO, &mut input);
+    if n == 1048576 {
+        put(b"too much input\n");
+    } else {
+        lines(&input[0..n]);
+    }
 }

@@ -1,10 +1,9 @@
-ghost use Prim.Native.Nat.{ℕ};
-ghost use mathlib.Core.Path.{_≡_};
-ghost use lib.ListN.{length};
+use bytes::scan;
 use frame::Header;
 use libc::STDIN_FILENO;
 use libc::STDOUT_FILENO;
 use message::Send;
+use records::Said;
 use slots::Slot;
 use state::Phase;
 use state::Session;
@@ -12,6 +11,8 @@ use table::Event;
 use table::Timer;
 use table::Wish;
 use wire::Counted;
+
+// ---- fields out
 
 fn put(s: &[u8]) {
     io::write_all(STDOUT_FILENO, s);
@@ -22,59 +23,20 @@ fn decimal(n: usize) {
     io::print_decimal(STDOUT_FILENO, n as u64);
 }
 
-fn header_in(s: &[u8]) -> Header
-    requires { ⌜ length (now s) ≡ 10 ⌝ }
-{
-    frame::header_of([s[0], s[1], s[2], s[3], s[4], s[5], s[6], s[7], s[8], s[9]])
-}
-
-// session ID, PType, SType, byte 2, byte 3, system bytes
-fn header_fields(h: Header) {
-    decimal(h.session as usize);
-    decimal(h.ptype as usize);
-    decimal(h.stype as usize);
-    decimal(h.byte2 as usize);
-    decimal(h.byte3 as usize);
-    decimal(h.system as usize);
-}
-
-// ---- an event, as twenty bytes say it: its sort, ten bytes of a header, the length of the text, the text
-
-fn timer_in(h: Header) -> Timer {
-    let k = h.byte3;
-    match k {
-        3 => Timer::T3(h.system),
-        6 => Timer::T6,
-        7 => Timer::T7,
-        _ => Timer::T8,
+fn digits(s: &[u8]) {
+    let mut out = records::room();
+    put(b"\t");
+    match records::hex_of(s, &mut out) {
+        Counted::Is(n) => if n <= out.len() {
+            put(&out[0..n]);
+        },
+        Counted::Refused(number) => decimal(number as usize),
     }
 }
 
-fn wish_in(h: Header) -> Wish {
-    let k = h.byte3;
-    match k {
-        0 => Wish::Connect,
-        1 => Wish::Disconnect,
-        2 => Wish::Flag(h.byte2, h.ptype == 1),
-        3 => Wish::Primary(h.ptype == 1, h.byte2, h.stype),
-        4 => Wish::Reply(h.system),
-        5 => Wish::Abort(h.system),
-        6 => Wish::Linktest,
-        _ => Wish::Separate,
-    }
-}
+// ---- a state and a message
 
-fn event_in(sort: u8, h: Header) -> Event {
-    match sort {
-        0 => Event::Received(message::received_of(h)),
-        1 => Event::Timer(timer_in(h)),
-        _ => Event::Wish(wish_in(h)),
-    }
-}
-
-// ---- what is printed of a state and of a message
-
-fn phase_word(p: Phase) {
+fn phase_field(p: Phase) {
     match p {
         Phase::NotConnected => put(b"\tnot connected"),
         Phase::NotSelected => put(b"\tnot selected"),
@@ -82,16 +44,30 @@ fn phase_word(p: Phase) {
     }
 }
 
-fn slot_fields(word: &[u8], l: [Slot; 32]) {
+fn slot_fields(word: &[u8], place: usize, x: Slot) {
+    if x.taken {
+        put(word);
+        decimal(place);
+        decimal(x.system as usize);
+        decimal(x.stream as usize);
+        decimal(x.function as usize);
+    }
+}
+
+fn table_fields(word: &[u8], l: [Slot; 32]) {
     let mut i: usize = 0;
     while i < 32 {
-        let x = l[i];
-        if x.taken {
-            put(word);
+        slot_fields(word, i, l[i]);
+        i += 1;
+    }
+}
+
+fn flag_fields(flags: [bool; 128]) {
+    put(b"\tflags");
+    let mut i: usize = 0;
+    while i < 128 {
+        if flags[i] {
             decimal(i);
-            decimal(x.system as usize);
-            decimal(x.stream as usize);
-            decimal(x.function as usize);
         }
         i += 1;
     }
@@ -100,42 +76,31 @@ fn slot_fields(word: &[u8], l: [Slot; 32]) {
 fn state_fields(s: Session) {
     let link = s.link;
     let test = link.linktest;
-    let d = s.device;
     let phase = link.phase;
+    let d = s.device;
     let received = d.received;
     let own = d.own;
-    phase_word(phase);
+    let flags = d.flags;
+    phase_field(phase);
     decimal(link.next as usize);
     if test.running {
         put(b"\tlinktest");
         decimal(test.system as usize);
     }
-    slot_fields(b"\treceived", received);
-    slot_fields(b"\town", own);
+    table_fields(b"\treceived", received);
+    table_fields(b"\town", own);
+    flag_fields(flags);
 }
 
-// The length and the header of a frame; of an S9, which has 26 bytes, also the header that it is about.
-fn frame_fields(f: &[u8]) {
-    if 14 <= f.len() {
-        put(b"\tsent");
-        decimal(frame::length_in(f));
-        header_fields(header_in(&f[4..14]));
-    }
-    if f.len() == 26 {
-        put(b"\tabout");
-        decimal(text::judge(&f[14..26]) as usize);
-        header_fields(header_in(&f[16..26]));
-    }
-}
-
-fn send_fields(m: Send, wished: &[u8]) {
-    let mut out = [0u8; 40];
-    match message::write_message(m, wished, &mut out) {
-        Counted::Is(n) => {
+fn sent_fields(m: Send, text: &[u8]) {
+    let mut out = [0u8; 32768];
+    match message::write_message(m, text, &mut out) {
+        Counted::Is(n) => if 0 < n {
             if n <= out.len() {
-                frame_fields(&out[0..n]);
+                put(b"\tsent");
+                digits(&out[0..n]);
             }
-        }
+        },
         Counted::Refused(number) => {
             put(b"\trefused");
             decimal(number as usize);
@@ -143,45 +108,166 @@ fn send_fields(m: Send, wished: &[u8]) {
     }
 }
 
-fn event_line(s: Session, r: &[u8]) -> Session
-    requires { ⌜ length (now r) ≡ 20 ⌝ }
-{
-    let h = header_in(&r[1..11]);
-    let n = (r[11] % 9) as usize;
-    let text = &r[12..12 + n];
-    let a = session::step(s, event_in(r[0], h), text);
-    let t = a.session;
+// ---- a record: the session before it, and the session behind it
+
+fn bad(s: Session) -> Session {
+    put(b"bad record\n");
+    s
+}
+
+fn event(s: Session, e: Event, text: &[u8]) -> Session {
+    let a = session::step(s, e, text);
+    let next = a.session;
     let m = a.send;
     put(b"event");
     decimal(a.number as usize);
-    state_fields(t);
-    send_fields(m, text);
+    state_fields(next);
+    sent_fields(m, text);
     put(b"\n");
-    t
+    next
 }
 
-// A session of a device, and events one behind another.
-fn run(id: u16, events: &[u8]) {
-    let made = state::new_session(id);
-    put(b"session");
-    decimal(id as usize);
+// device ID (2)
+fn make(s: Session, b: &[u8]) -> Session {
+    if b.len() < 2 {
+        return bad(s);
+    }
+    let made = state::new_session(records::half_at(b, 0));
+    let next = made.session;
+    put(b"made");
     decimal(made.number as usize);
+    state_fields(next);
     put(b"\n");
-    let mut s = made.session;
-    let mut at: usize = 0;
-    while 20 <= events.len() - at {
-        let next = at + 20;
-        s = event_line(s, &events[at..next]);
-        at = next;
+    next
+}
+
+fn header_in(b: &[u8]) -> Header {
+    frame::header_of([
+        records::byte_at(b, 0),
+        records::byte_at(b, 1),
+        records::byte_at(b, 2),
+        records::byte_at(b, 3),
+        records::byte_at(b, 4),
+        records::byte_at(b, 5),
+        records::byte_at(b, 6),
+        records::byte_at(b, 7),
+        records::byte_at(b, 8),
+        records::byte_at(b, 9),
+    ])
+}
+
+// header (10), text
+fn receive(s: Session, b: &[u8]) -> Session {
+    if b.len() < 10 {
+        return bad(s);
+    }
+    event(
+        s,
+        Event::Received(message::received_of(header_in(b))),
+        &b[10..],
+    )
+}
+
+// wish (1), W (1), stream (1), function (1), flag (1), system bytes (4)
+fn wish_in(b: &[u8]) -> Wish {
+    let kind = records::byte_at(b, 0);
+    let w = records::byte_at(b, 1) == 1;
+    let stream = records::byte_at(b, 2);
+    let function = records::byte_at(b, 3);
+    let flag = records::byte_at(b, 4) == 1;
+    let system = records::word_at(b, 5);
+    match kind {
+        0 => Wish::Connect,
+        1 => Wish::Disconnect,
+        2 => Wish::Flag(stream, flag),
+        3 => Wish::Primary(w, stream, function),
+        4 => Wish::Reply(system),
+        5 => Wish::Abort(system),
+        6 => Wish::Linktest,
+        _ => Wish::Separate,
     }
 }
 
-// Device 1, and a device ID above 32,767, whose session answers 14.
+fn wish(s: Session, b: &[u8]) -> Session {
+    if b.len() < 9 {
+        return bad(s);
+    }
+    event(s, Event::Wish(wish_in(b)), &b[9..])
+}
+
+// timer (1), system bytes (4)
+fn timer_in(b: &[u8]) -> Timer {
+    let kind = records::byte_at(b, 0);
+    let system = records::word_at(b, 1);
+    match kind {
+        3 => Timer::T3(system),
+        6 => Timer::T6,
+        7 => Timer::T7,
+        _ => Timer::T8,
+    }
+}
+
+fn timer(s: Session, b: &[u8]) -> Session {
+    if b.len() < 5 {
+        return bad(s);
+    }
+    event(s, Event::Timer(timer_in(b)), b"")
+}
+
+fn record(s: Session, letter: u8, b: &[u8]) -> Session {
+    match letter {
+        b'm' => make(s, b),
+        b'r' => receive(s, b),
+        b'w' => wish(s, b),
+        b't' => timer(s, b),
+        _ => bad(s),
+    }
+}
+
+// ---- lines
+
+fn line(s: Session, l: &[u8]) -> Session {
+    if l.len() == 0 {
+        return s;
+    }
+    let letter = l[0];
+    if letter == b'#' {
+        put(l);
+        put(b"\n");
+        return s;
+    }
+    let mut said = records::room();
+    match records::bytes_in(&l[1..], &mut said) {
+        Said::Bytes(n) => if n <= said.len() {
+            record(s, letter, &said[0..n])
+        } else {
+            bad(s)
+        },
+        Said::Wrong => bad(s),
+        Said::Long => bad(s),
+    }
+}
+
+fn lines(input: &[u8]) {
+    let made = state::new_session(0);
+    let mut s = made.session;
+    let mut at: usize = 0;
+    while at < input.len() {
+        let end = scan::find(input, at, input.len(), b'\n');
+        s = line(s, &input[at..end]);
+        if end == input.len() {
+            break;
+        }
+        at = end + 1;
+    }
+}
+
 fn main() {
-    let mut events = io::large_buffer();
-    let n = io::read_full(STDIN_FILENO, &mut events);
-    run(1, &events[0..n]);
-    if 40 <= n {
-        run(32768, &events[0..40]);
+    let mut input = records::room();
+    let n = io::read_full(STDIN_FILENO, &mut input);
+    if n == 1048576 {
+        put(b"too much input\n");
+    } else {
+        lines(&input[0..n]);
     }
 }

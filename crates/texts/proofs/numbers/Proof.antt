@@ -1,4 +1,4 @@
--- Each element read lies below the length.
+-- Each number read lies below the length.
 use borrow.Author.Needs.{needs}
 use Prim.Native.Nat.{_-_, _≤_}
 use native.Mathlib.Omega.{arith}
@@ -7,37 +7,25 @@ use Rattle.texts.proofs.numbers.Statement.{statement}
 use Rattle.texts.proofs.numbers.Tie as tie
 
 abbrev Inv-loop : tie.InvT-loop
-Inv-loop s i₀ t4 i = i ≤ length s
+Inv-loop s i₀ i = i ≤ length s
 
 abbrev μ-loop : tie.MeasureT-loop
-μ-loop s i₀ t4 i = length s - i
-
-slice-aggregate-put : tie.Need-slice-aggregate-put Inv-loop μ-loop
-slice-aggregate-put c = search needs
-
-put-requires : tie.Need-put-requires Inv-loop μ-loop
-put-requires c κs = search needs
+μ-loop s i₀ i = length s - i
 
 loop-holds : tie.Need-loop-holds Inv-loop μ-loop
 loop-holds c = search needs
 
-slice-aggregate-put-2 : tie.Need-slice-aggregate-put-2 Inv-loop μ-loop
-slice-aggregate-put-2 c = search needs
+mul-decimal : tie.Need-mul-decimal Inv-loop μ-loop
+mul-decimal c = search needs
 
-put-requires-2 : tie.Need-put-requires-2 Inv-loop μ-loop
-put-requires-2 c κs = search needs
+shared-slice-read-decimal : tie.Need-shared-slice-read-decimal Inv-loop μ-loop
+shared-slice-read-decimal c = search needs
 
-mul-print-decimal : tie.Need-mul-print-decimal Inv-loop μ-loop
-mul-print-decimal c = search needs
+cast-decimal : tie.Need-cast-decimal Inv-loop μ-loop
+cast-decimal c = omega (arith, c .shared-slice-known2 .given (c .before .before .loop .i))
 
-shared-slice-read-print-decimal : tie.Need-shared-slice-read-print-decimal Inv-loop μ-loop
-shared-slice-read-print-decimal c = search needs
-
-cast-print-decimal : tie.Need-cast-print-decimal Inv-loop μ-loop
-cast-print-decimal c = omega (arith, c .shared-slice-known2 .given (c .before .before .before .before .loop .i))
-
-print-decimal-requires : tie.Need-print-decimal-requires Inv-loop μ-loop
-print-decimal-requires c κs = search needs
+decimal-requires : tie.Need-decimal-requires Inv-loop μ-loop
+decimal-requires c κs = search needs
 
 add-i : tie.Need-add-i Inv-loop μ-loop
 add-i c = search needs
@@ -57,15 +45,11 @@ numbers-spec =
     (tie.spec
     Inv-loop
     μ-loop
-    slice-aggregate-put
-    put-requires
     loop-holds
-    slice-aggregate-put-2
-    put-requires-2
-    mul-print-decimal
-    shared-slice-read-print-decimal
-    cast-print-decimal
-    print-decimal-requires
+    mul-decimal
+    shared-slice-read-decimal
+    cast-decimal
+    decimal-requires
     add-i
     loop-less
     loop-again

@@ -1,0 +1,4 @@
+pub mod Laws
+pub mod Fields
+pub mod Back
+pub mod Determined

@@ -1,0 +1,17 @@
+-- The fields of a record, the room for its lines, and an output to write into.
+use Prim.Native.Nat.{ℕ}
+use mathlib.Core.List.{List}
+use lib.ListN.{take, drop, replicate}
+use Rattle.wire.specs.Number.{numberOf}
+
+-- the number of so many bytes from a place on, high byte first; as far as there are bytes
+unfoldable pub fieldOf : ℕ → List ℕ → ℕ → ℕ
+fieldOf size s at = numberOf (take size (drop at s))
+
+-- the room for all lines that a program takes
+unfoldable pub room : List ℕ
+room = replicate 1048576 0
+
+-- an output before anything is written
+unfoldable pub blank : List ℕ
+blank = replicate 65536 0xEE
