@@ -6,7 +6,6 @@ use native.Mathlib.Omega.{arith}
 use lib.ListN.{length, drop, getD, length-append}
 use lib.Seq.{sets, drop-cons, drop-length}
 use Rattle.wire.proofs.Stores.{sets-append}
-use Rattle.listing.specs.Decimal.{decimalOf}
 use Rattle.frame.specs.declared.Header.{Header}
 use Rattle.listing.specs.Line.{newline, numberField, fields, messageLine}
 use Rattle.listing.proofs.Digits.{spelled-length}

@@ -1,11 +1,11 @@
 -- The letters of a code's name are the first of its seven bytes.
 use Prim.Native.Nat.{ℕ, _+_, _-_, _≤_}
 use mathlib.Core.List.{List, [], _∷_, _++_}
-use mathlib.Core.Path.{_≡_, refl, sym, ap, _∙_}
+use mathlib.Core.Path.{_≡_, refl, ap}
 use native.Mathlib.Omega.{arith}
-use lib.ListN.{length, take, length-append, length-take}
+use lib.ListN.{length, take, length-append}
 use lib.Dec.{leb, leb→le}
-use Rattle.item.specs.Code.{codes, found, letters, named, nameOf}
+use Rattle.item.specs.Code.{codes, found, letters, nameOf}
 use Rattle.item.specs.declared.Name.{Name}
 use Rattle.item.proofs.Codes.{found-each}
 use Rattle.listing.specs.Line.{nameField}

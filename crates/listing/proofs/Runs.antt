@@ -1,19 +1,17 @@
 -- A run over the rest of a piece is the run over all of it, with what is behind taken off: a turn is a step of the definition.
 use Prim.Native.Nat.{ℕ, suc, _+_, _-_, _≤_, _<_}
-use mathlib.Core.Bool.{true, false}
-use mathlib.Core.List.{List, [], _∷_, _++_}
+use mathlib.Core.List.{List}
 use mathlib.Core.Path.{_≡_, refl, sym, ap, _∙_}
 use native.Mathlib.Omega.{arith}
 use native.Mathlib.Numerals.{add-one}
 use borrow.Author.Tests.{le-leb, lt-leb}
 use lib.ListN.{length, drop, getD, length-append}
-use lib.Seq.{sets, length-sets, drop-cons, drop-length}
+use lib.Seq.{sets, drop-cons, drop-length}
 use Rattle.wire.proofs.Stores.{sets-append}
-use Rattle.listing.specs.Listing.{Told, byteTold}
+use Rattle.listing.specs.Listing.{byteTold}
 use Rattle.listing.specs.Piece.{Run, one, none, run, printed, listedBy}
 use Rattle.listing.specs.declared.Lister.{Lister}
 use Rattle.listing.specs.declared.Printed.{Printed}
-use Rattle.listing.specs.declared.Listed.{Listed}
 use Rattle.listing.proofs.Short.{byte-short}
 use Rattle.listing.proofs.Told.{Prints}
 

@@ -20,7 +20,7 @@ use Rattle.reader.specs.declared.Fed.{Fed}
 use Rattle.reader.specs.declared.Phase.{Phase}
 use Rattle.reader.specs.declared.Phase.the-variants as P
 use Rattle.listing.specs.Line.{newline, numberField, nameField, fields, lineOf, messageLine, itemLine, refusalLine, endLine}
-use Rattle.listing.specs.Listing.{Told, told, behind, withFrames, withText, oneMore, isData, itemAt, byAnswer, byEvent, refusedBy, textByte, headerCame, settled, fedByte, byteTold, endedBy, lastLine}
+use Rattle.listing.specs.Listing.{told, behind, withFrames, withText, oneMore, isData, itemAt, byAnswer, byEvent, refusedBy, textByte, headerCame, settled, fedByte, byteTold, endedBy, lastLine}
 use Rattle.listing.specs.declared.Lister.{Lister}
 use Rattle.listing.proofs.Fields.{field-short, fields-short, message-short}
 use Rattle.listing.proofs.Named.{name-short}

@@ -1,5 +1,5 @@
 -- A text byte that is not refused came to a reader that the list allows, whose length bytes so far say a small number.
-use Prim.Native.Nat.{ℕ, _+_, _*_, _-_, _^_, _<_}
+use Prim.Native.Nat.{ℕ, _-_, _^_, _<_}
 use mathlib.Core.Bool.{Bool, true, false, cond}
 use mathlib.Core.List.{List}
 use mathlib.Core.Path.{_≡_, refl, sym, subst}

@@ -1,7 +1,7 @@
 -- What a byte prints, where it is known what the readers answered: each is its definition with that answer put in.
 use Prim.Native.Nat.{ℕ, _+_, _*_, _≤_}
 use mathlib.Core.Bool.{Bool, true, false, cond}
-use mathlib.Core.List.{List, [], _∷_, _++_}
+use mathlib.Core.List.{List, [], _∷_}
 use mathlib.Core.Path.{_≡_, refl, sym, ap, _∙_}
 use lib.Dec.{eqb, ltb}
 use lib.ListN.{length, length-append}
@@ -161,7 +161,3 @@ module _ (l s : Lister) (n : ℕ) where
   pub ended-inside : (n ≡ 0 → ⊥) → endedBy n s ≡ refusalLine n (s .bytes)
   unfolding endedBy
   ended-inside h = rw (ne-eqb n 0 h)
-
--- a test that a call answered
-pub told-so : {a b t : Bool} → a ≡ b → a ≡ t → b ≡ t
-told-so p e = sym p ∙ e

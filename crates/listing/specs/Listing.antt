@@ -1,16 +1,15 @@
 -- What each byte of a captured stream prints, and its end: what the fed frame reader and the fed text reader answer, as lines.
-use Prim.Native.Nat.{ℕ, _+_, _*_, _-_, _%_, _^_}
+use Prim.Native.Nat.{ℕ, _+_, _*_, _%_, _^_}
 use mathlib.Core.Bool.{Bool, true, false, cond}
 use mathlib.Core.List.{List, [], _∷_, _++_}
-use lib.Dec.{eqb, leb}
-use lib.ListN.{length}
+use lib.Dec.{eqb}
 use Rattle.frame.specs.declared.Header.{Header}
 use Rattle.frames.specs.State.{head, readerOf as frameReaderOf}
 use Rattle.frames.specs.Feed.{endOf, fedOf as frameFed}
 use Rattle.frames.specs.declared.Event.{Event}
 use Rattle.frames.specs.declared.Event.the-variants as E
 use Rattle.frames.specs.declared.FrameReader.{FrameReader}
-use Rattle.reader.specs.State.{fresh, stateOf, readerOf}
+use Rattle.reader.specs.State.{fresh, readerOf}
 use Rattle.reader.specs.Feed.{status, fedOf}
 use Rattle.reader.specs.declared.Answer.{Answer}
 use Rattle.reader.specs.declared.Answer.the-variants as A

@@ -5,7 +5,7 @@ ghost use lib.ListN.{length};
 ghost use lib.Seq.{sets};
 ghost use Rattle.reader.specs.Feed.{allows};
 ghost use Rattle.listing.specs.Line.{numberField, nameField, fields, lineOf, messageLine, itemLine, refusalLine, endLine};
-ghost use Rattle.listing.specs.Listing.{oneMore, isData, itemAt, freshLister, refusedBy, textByte, headerCame, settled, fedByte, byteTold, endedBy, lastLine, told, withFrames, withText};
+ghost use Rattle.listing.specs.Listing.{oneMore, isData, itemAt, freshLister, refusedBy, textByte, headerCame, settled, fedByte, byteTold, lastLine, withFrames, withText};
 ghost use Rattle.listing.specs.Piece.{printed, run, listedBy};
 use frame::Header;
 use frames::Event;

@@ -7,8 +7,6 @@ use borrow.Author.Needs.{needs}
 use native.Mathlib.Omega.{arith}
 use Rattle.lister.proofs.list_block.Statement.{statement}
 use Rattle.lister.proofs.list_block.Tie as tie
-use Rattle.lister.proofs.list_block.Reads as reads
-use Rattle.lister.proofs.list_block.Lts as lts
 
 abbrev Inv-loop : tie.InvT-loop
 Inv-loop block out₀ state₀ from₀ out state from = (length out ≡ 65536) × (from ≤ length block)

@@ -1,13 +1,9 @@
 -- The last line has at most 44 bytes.
 use Rattle.listing.proofs.Short.{last-short, last-kept}
-use mathlib.Core.Path.{_≡_}
 use native.Mathlib.Omega.{arith}
-use lib.ListN.{length}
 use borrow.Author.Needs.{needs}
 use Rattle.lister.proofs.list_end.Statement.{statement}
 use Rattle.lister.proofs.list_end.Tie as tie
-use Rattle.lister.proofs.list_end.Reads as reads
-use Rattle.lister.proofs.list_end.Lts as lts
 
 finish-requires : tie.Need-finish-requires
 finish-requires c κs = search needs

@@ -1,12 +1,10 @@
 -- The blocks that may still be read grow fewer with each turn.
 use borrow.Author.Needs.{needs}
-use mathlib.Core.Path.{_≡_, sym, _∙_}
+use mathlib.Core.Path.{_≡_, sym}
 use native.Mathlib.Omega.{arith}
 use lib.ListN.{length}
 use Rattle.lister.proofs.main.Statement.{statement}
 use Rattle.lister.proofs.main.Tie as tie
-use Rattle.lister.proofs.main.Reads as reads
-use Rattle.lister.proofs.main.Lts as lts
 
 abbrev Inv-loop : tie.InvT-loop
 Inv-loop block₀ state₀ blocks₀ block state blocks = length block ≡ 65536

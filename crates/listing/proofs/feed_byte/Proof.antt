@@ -3,14 +3,6 @@ use Rattle.listing.proofs.Told.{prints, as-printed, prints-none, fed-as
 use borrow.Author.Needs.{needs}
 use Rattle.listing.proofs.feed_byte.Statement.{statement}
 use Rattle.listing.proofs.feed_byte.Tie as tie
-use Rattle.listing.proofs.feed_byte.Reads as reads
-use Rattle.listing.proofs.feed_byte.Lts as lts
-use Rattle.frames.proofs.feed.Reads as feed-reads
-use Rattle.listing.proofs.header_came.Reads as header-came-reads
-use Rattle.listing.proofs.one_more.Reads as one-more-reads
-use Rattle.listing.proofs.refuse.Reads as refuse-reads
-use Rattle.listing.proofs.text_byte.Reads as text-byte-reads
-use Rattle.listing.proofs.with_frames.Reads as with-frames-reads
 
 slice-aggregate-feed : tie.Need-slice-aggregate-feed
 slice-aggregate-feed c = search needs

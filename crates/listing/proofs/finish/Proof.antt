@@ -1,17 +1,10 @@
 -- Behind the last frame's end the line is E, else X with the number of the end.
-use borrow.Author.Tests.{eq-eqb, ne-eqb}
 use mathlib.Core.Path.{_∙_}
 use Rattle.listing.proofs.Stored.{stored}
 use Rattle.listing.proofs.Told.{first-as, put-none, last-none, last-as, ended-clean, ended-inside}
 use borrow.Author.Needs.{needs}
 use Rattle.listing.proofs.finish.Statement.{statement}
 use Rattle.listing.proofs.finish.Tie as tie
-use Rattle.listing.proofs.finish.Reads as reads
-use Rattle.listing.proofs.finish.Lts as lts
-use Rattle.frames.proofs.end_number.Reads as end-number-reads
-use Rattle.listing.proofs.put_end.Reads as put-end-reads
-use Rattle.listing.proofs.put_refusal.Reads as put-refusal-reads
-use Rattle.listing.proofs.settle.Reads as settle-reads
 
 returns : tie.Need-returns
 returns c = first-as _ (last-none (c .before .args .l) (c .before .args .l) 0 (c .if1 .taken)) (put-none _ 0)

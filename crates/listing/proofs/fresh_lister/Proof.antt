@@ -3,10 +3,6 @@ use Rattle.listing.specs.Listing.{freshLister}
 use borrow.Author.Needs.{needs}
 use Rattle.listing.proofs.fresh_lister.Statement.{statement}
 use Rattle.listing.proofs.fresh_lister.Tie as tie
-use Rattle.listing.proofs.fresh_lister.Reads as reads
-use Rattle.listing.proofs.fresh_lister.Lts as lts
-use Rattle.frames.proofs.fresh_reader.Reads as fresh-reader-reads
-use Rattle.reader.proofs.fresh_reader.Reads as fresh-reader-reads′
 
 fresh-reader-requires : tie.Need-fresh-reader-requires
 fresh-reader-requires c κs = search needs

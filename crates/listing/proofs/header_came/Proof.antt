@@ -1,23 +1,14 @@
 -- The M line stands first; behind it each arm is the definition's case of what the fresh text reader is.
-use Prim.Native.Nat.{ℕ}
 use native.Mathlib.Omega.{arith}
-use mathlib.Core.Path.{sym, ap, _∙_}
+use mathlib.Core.Path.{sym, _∙_}
 use Rattle.listing.specs.Line.{messageLine}
 use Rattle.listing.specs.Listing.{refusedBy}
 use Rattle.listing.proofs.Fields.{message-short}
 use Rattle.listing.proofs.Stored.{Stored, stored, kept}
-use Rattle.listing.proofs.Told.{told-so, Prints, prints, prints-kept, as-printed, prints-none, prints-behind, data-as, other-as, fresh-status}
+use Rattle.listing.proofs.Told.{Prints, prints, prints-kept, as-printed, prints-none, prints-behind, data-as, other-as, fresh-status}
 use borrow.Author.Needs.{needs}
 use Rattle.listing.proofs.header_came.Statement.{statement}
 use Rattle.listing.proofs.header_came.Tie as tie
-use Rattle.listing.proofs.header_came.Reads as reads
-use Rattle.listing.proofs.header_came.Lts as lts
-use Rattle.listing.proofs.is_data.Reads as is-data-reads
-use Rattle.listing.proofs.put_message.Reads as put-message-reads
-use Rattle.listing.proofs.refuse.Reads as refuse-reads
-use Rattle.listing.proofs.with_text.Reads as with-text-reads
-use Rattle.reader.proofs.fresh_reader.Reads as fresh-reader-reads
-use Rattle.reader.proofs.status_of.Reads as status-of-reads
 
 put-message-requires : tie.Need-put-message-requires
 put-message-requires c κs = search needs
@@ -55,13 +46,13 @@ same-length : tie.Need-same-length
 same-length c = search needs
 
 returns : tie.Need-returns
-returns c = as-printed _ (data-as _ _ _ _ _ _ _ (told-so (c .before .before .before .before .before .before .is-data .ensures) (c .before .before .before .before .before .if1 .taken)) (c .before .before .before .before .fresh-reader .ensures) (c .before .before .before .with-text .ensures) (fresh-status _ _ _ (c .before .before .before .before .fresh-reader .ensures) (c .before .before .status-of .ensures)) (c .enum-told .given .1)) (prints-behind {v = messageLine (c .before .before .before .before .before .before .before .before .before .before .before .before .before .args .h) (c .before .before .before .before .before .before .before .before .before .before .before .before .before .args .n)} (stored (c .before .before .before .before .before .before .before .before .before .before .put-message .ensures)) (prints-none _ _ _))
+returns c = as-printed _ (data-as _ _ _ _ _ _ _ (sym (c .before .before .before .before .before .before .is-data .ensures) ∙ c .before .before .before .before .before .if1 .taken) (c .before .before .before .before .fresh-reader .ensures) (c .before .before .before .with-text .ensures) (fresh-status _ _ _ (c .before .before .before .before .fresh-reader .ensures) (c .before .before .status-of .ensures)) (c .enum-told .given .1)) (prints-behind {v = messageLine (c .before .before .before .before .before .before .before .before .before .before .before .before .before .args .h) (c .before .before .before .before .before .before .before .before .before .before .before .before .before .args .n)} (stored (c .before .before .before .before .before .before .before .before .before .before .put-message .ensures)) (prints-none _ _ _))
 
 same-length-2 : tie.Need-same-length-2
 same-length-2 c = search needs
 
 returns-2 : tie.Need-returns-2
-returns-2 c = as-printed _ (data-as _ _ _ _ _ _ _ (told-so (c .before .before .before .before .before .before .is-data .ensures) (c .before .before .before .before .before .if1 .taken)) (c .before .before .before .before .fresh-reader .ensures) (c .before .before .before .with-text .ensures) (fresh-status _ _ _ (c .before .before .before .before .fresh-reader .ensures) (c .before .before .status-of .ensures)) (c .enum-told2 .given .1)) (prints-behind {v = messageLine (c .before .before .before .before .before .before .before .before .before .before .before .before .before .args .h) (c .before .before .before .before .before .before .before .before .before .before .before .before .before .args .n)} (stored (c .before .before .before .before .before .before .before .before .before .before .put-message .ensures)) (prints-none _ _ _))
+returns-2 c = as-printed _ (data-as _ _ _ _ _ _ _ (sym (c .before .before .before .before .before .before .is-data .ensures) ∙ c .before .before .before .before .before .if1 .taken) (c .before .before .before .before .fresh-reader .ensures) (c .before .before .before .with-text .ensures) (fresh-status _ _ _ (c .before .before .before .before .fresh-reader .ensures) (c .before .before .status-of .ensures)) (c .enum-told2 .given .1)) (prints-behind {v = messageLine (c .before .before .before .before .before .before .before .before .before .before .before .before .before .args .h) (c .before .before .before .before .before .before .before .before .before .before .before .before .before .args .n)} (stored (c .before .before .before .before .before .before .before .before .before .before .put-message .ensures)) (prints-none _ _ _))
 
 same-length-3 : tie.Need-same-length-3
 same-length-3 c =
@@ -70,13 +61,13 @@ same-length-3 c =
     prints-kept w ∙ kept p
 
 returns-3 : tie.Need-returns-3
-returns-3 c = as-printed _ (data-as _ _ _ _ _ _ _ (told-so (c .before .before .before .before .before .before .before .before .before .before .before .is-data .ensures) (c .before .before .before .before .before .before .before .before .before .before .if1 .taken)) (c .before .before .before .before .before .before .before .before .before .fresh-reader .ensures) (c .before .before .before .before .before .before .before .before .with-text .ensures) (fresh-status _ _ _ (c .before .before .before .before .before .before .before .before .before .fresh-reader .ensures) (c .before .before .before .before .before .before .before .status-of .ensures)) (c .before .before .before .before .before .answer .given .1)) (prints-behind {v = messageLine (c .before .before .before .before .before .before .before .before .before .before .before .before .before .before .before .before .before .before .args .h) (c .before .before .before .before .before .before .before .before .before .before .before .before .before .before .before .before .before .before .args .n)} (stored (c .before .before .before .before .before .before .before .before .before .before .before .before .before .before .before .put-message .ensures)) (prints (c .before .before .refuse .ensures)))
+returns-3 c = as-printed _ (data-as _ _ _ _ _ _ _ (sym (c .before .before .before .before .before .before .before .before .before .before .before .is-data .ensures) ∙ c .before .before .before .before .before .before .before .before .before .before .if1 .taken) (c .before .before .before .before .before .before .before .before .before .fresh-reader .ensures) (c .before .before .before .before .before .before .before .before .with-text .ensures) (fresh-status _ _ _ (c .before .before .before .before .before .before .before .before .before .fresh-reader .ensures) (c .before .before .before .before .before .before .before .status-of .ensures)) (c .before .before .before .before .before .answer .given .1)) (prints-behind {v = messageLine (c .before .before .before .before .before .before .before .before .before .before .before .before .before .before .before .before .before .before .args .h) (c .before .before .before .before .before .before .before .before .before .before .before .before .before .before .before .before .before .before .args .n)} (stored (c .before .before .before .before .before .before .before .before .before .before .before .before .before .before .before .put-message .ensures)) (prints (c .before .before .refuse .ensures)))
 
 same-length-4 : tie.Need-same-length-4
 same-length-4 c = search needs
 
 returns-4 : tie.Need-returns-4
-returns-4 c = as-printed _ (other-as _ _ _ _ (told-so (c .before .before .is-data .ensures) (c .before .if1 .left)) (c .with-text2 .ensures)) (prints-behind {v = messageLine (c .before .before .before .before .before .before .before .before .before .args .h) (c .before .before .before .before .before .before .before .before .before .args .n)} (stored (c .before .before .before .before .before .before .put-message .ensures)) (prints-none _ _ _))
+returns-4 c = as-printed _ (other-as _ _ _ _ (sym (c .before .before .is-data .ensures) ∙ c .before .if1 .left) (c .with-text2 .ensures)) (prints-behind {v = messageLine (c .before .before .before .before .before .before .before .before .before .args .h) (c .before .before .before .before .before .before .before .before .before .args .n)} (stored (c .before .before .before .before .before .before .put-message .ensures)) (prints-none _ _ _))
 
 pub header-came-spec : {M : Type 1} → statement M
 header-came-spec =

@@ -2,8 +2,6 @@
 use borrow.Author.Tests.{eq-eqb, ne-eqb}
 use Rattle.listing.proofs.is_data.Statement.{statement}
 use Rattle.listing.proofs.is_data.Tie as tie
-use Rattle.listing.proofs.is_data.Reads as reads
-use Rattle.listing.proofs.is_data.Lts as lts
 
 returns : tie.Need-returns
 returns c = rw (eq-eqb _ 0 (c .before .if1 .taken))

@@ -1,9 +1,8 @@
 -- Only behind the last length byte a line is put; its number is small, since the list allows the reader.
-use Prim.Native.Nat.{ℕ, _<_}
-use mathlib.Core.Path.{_≡_, sym, ap, _∙_}
+use Prim.Native.Nat.{_<_}
+use mathlib.Core.Path.{_≡_, ap, _∙_}
 use native.Mathlib.Omega.{arith}
 use lib.ListN.{length}
-use borrow.Author.Tests.{eq-eqb, ne-eqb}
 use Rattle.listing.proofs.Texts.{length-small}
 use Rattle.reader.specs.declared.Phase.{Phase}
 use Rattle.listing.specs.Listing.{itemAt}
@@ -12,9 +11,6 @@ use Rattle.listing.proofs.Told.{item-now, item-early, put-as, put-none}
 use borrow.Author.Needs.{needs}
 use Rattle.listing.proofs.item_came.Statement.{statement}
 use Rattle.listing.proofs.item_came.Tie as tie
-use Rattle.listing.proofs.item_came.Reads as reads
-use Rattle.listing.proofs.item_came.Lts as lts
-use Rattle.listing.proofs.put_item.Reads as put-item-reads
 
 enum-told : tie.Need-enum-told
 enum-told c = search needs

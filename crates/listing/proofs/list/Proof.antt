@@ -9,12 +9,8 @@ use Rattle.listing.specs.Listing.{byteTold}
 use Rattle.listing.specs.Piece.{run}
 use Rattle.listing.proofs.Told.{Prints, prints, prints-kept}
 use Rattle.listing.proofs.Runs.{Joined, joined-first, joined-next, next-within, joined-last, run-full, run-end}
-use lib.Seq.{length-sets}
 use Rattle.listing.proofs.list.Statement.{statement}
 use Rattle.listing.proofs.list.Tie as tie
-use Rattle.listing.proofs.list.Reads as reads
-use Rattle.listing.proofs.list.Lts as lts
-use Rattle.listing.proofs.list_byte.Reads as list-byte-reads
 
 abbrev Inv-loop : tie.InvT-loop
 Inv-loop piece out₀ state₀ i₀ at₀ out state i at =

@@ -3,10 +3,6 @@ use Rattle.listing.proofs.Told.{prints, as-printed, prints-none, stoppe
 use borrow.Author.Needs.{needs}
 use Rattle.listing.proofs.list_byte.Statement.{statement}
 use Rattle.listing.proofs.list_byte.Tie as tie
-use Rattle.listing.proofs.list_byte.Reads as reads
-use Rattle.listing.proofs.list_byte.Lts as lts
-use Rattle.listing.proofs.feed_byte.Reads as feed-byte-reads
-use Rattle.listing.proofs.settle.Reads as settle-reads
 
 settle-requires : tie.Need-settle-requires
 settle-requires c κs = search needs

@@ -7,12 +7,6 @@ use Rattle.listing.proofs.Told.{prints, as-printed, prints-lines, liste
 use borrow.Author.Needs.{needs}
 use Rattle.listing.proofs.listed_byte.Statement.{statement}
 use Rattle.listing.proofs.listed_byte.Tie as tie
-use Rattle.listing.proofs.listed_byte.Reads as reads
-use Rattle.listing.proofs.listed_byte.Lts as lts
-use Rattle.listing.proofs.item_came.Reads as item-came-reads
-use Rattle.listing.proofs.refuse.Reads as refuse-reads
-use Rattle.listing.proofs.with_text.Reads as with-text-reads
-use Rattle.reader.proofs.feed.Reads as feed-reads
 
 slice-aggregate-feed : tie.Need-slice-aggregate-feed
 slice-aggregate-feed c = search needs

@@ -3,9 +3,6 @@ use Rattle.listing.specs.Line.{endLine}
 use borrow.Author.Needs.{needs}
 use Rattle.listing.proofs.put_end.Statement.{statement}
 use Rattle.listing.proofs.put_end.Tie as tie
-use Rattle.listing.proofs.put_end.Reads as reads
-use Rattle.listing.proofs.put_end.Lts as lts
-use Rattle.listing.proofs.put_line.Reads as put-line-reads
 
 slice-aggregate-put-line : tie.Need-slice-aggregate-put-line
 slice-aggregate-put-line c = search needs

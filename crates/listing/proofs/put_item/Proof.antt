@@ -9,11 +9,6 @@ use Rattle.listing.proofs.Stored.{Stored, stored, kept, then}
 use borrow.Author.Needs.{needs}
 use Rattle.listing.proofs.put_item.Statement.{statement}
 use Rattle.listing.proofs.put_item.Tie as tie
-use Rattle.listing.proofs.put_item.Reads as reads
-use Rattle.listing.proofs.put_item.Lts as lts
-use Rattle.listing.proofs.put.Reads as put-reads
-use Rattle.listing.proofs.put_name.Reads as put-name-reads
-use Rattle.listing.proofs.put_number.Reads as put-number-reads
 
 slice-aggregate-put : tie.Need-slice-aggregate-put
 slice-aggregate-put c = search needs

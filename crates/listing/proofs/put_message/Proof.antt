@@ -3,9 +3,6 @@ use Rattle.listing.specs.Line.{messageLine}
 use borrow.Author.Needs.{needs}
 use Rattle.listing.proofs.put_message.Statement.{statement}
 use Rattle.listing.proofs.put_message.Tie as tie
-use Rattle.listing.proofs.put_message.Reads as reads
-use Rattle.listing.proofs.put_message.Lts as lts
-use Rattle.listing.proofs.put_line.Reads as put-line-reads
 
 cast-t8 : tie.Need-cast-t8
 cast-t8 c = search needs

@@ -1,6 +1,6 @@
 -- The letters that the name holds stand behind the tab.
 use Prim.Native.Nat.{_-_}
-use mathlib.Core.Path.{_≡_, ap}
+use mathlib.Core.Path.{_≡_}
 use Rattle.item.specs.Code.{codes, found, letters}
 use mathlib.Core.List.{[], _∷_}
 use native.Mathlib.Omega.{arith}
@@ -11,10 +11,6 @@ use Rattle.listing.proofs.Stored.{Stored, stored, kept, then}
 use borrow.Author.Needs.{needs}
 use Rattle.listing.proofs.put_name.Statement.{statement}
 use Rattle.listing.proofs.put_name.Tie as tie
-use Rattle.listing.proofs.put_name.Reads as reads
-use Rattle.listing.proofs.put_name.Lts as lts
-use Rattle.item.proofs.name_of.Reads as name-of-reads
-use Rattle.listing.proofs.put.Reads as put-reads
 
 name-of-requires : tie.Need-name-of-requires
 name-of-requires c κs = search needs

@@ -1,14 +1,8 @@
 -- The line is put, and the listing has stopped.
 use Rattle.listing.specs.Listing.{refusedBy}
-use mathlib.Core.Path.{ap, _∙_}
-use Rattle.listing.proofs.Told.{as-printed, prints-lines}
 use borrow.Author.Needs.{needs}
 use Rattle.listing.proofs.refuse.Statement.{statement}
 use Rattle.listing.proofs.refuse.Tie as tie
-use Rattle.listing.proofs.refuse.Reads as reads
-use Rattle.listing.proofs.refuse.Lts as lts
-use Rattle.listing.proofs.put_refusal.Reads as put-refusal-reads
-use Rattle.listing.proofs.stop.Reads as stop-reads
 
 put-refusal-requires : tie.Need-put-refusal-requires
 put-refusal-requires c κs = search needs

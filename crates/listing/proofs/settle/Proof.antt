@@ -1,16 +1,10 @@
 -- Each arm is the definition's case of what the frame reader answered to no byte.
-use Prim.Native.Nat.{ℕ}
 use mathlib.Core.Path.{_≡_, sym, _∙_}
 use Rattle.listing.specs.Listing.{oneMore, withFrames}
 use Rattle.listing.proofs.Told.{settled-as}
 use borrow.Author.Needs.{needs}
 use Rattle.listing.proofs.settle.Statement.{statement}
 use Rattle.listing.proofs.settle.Tie as tie
-use Rattle.listing.proofs.settle.Reads as reads
-use Rattle.listing.proofs.settle.Lts as lts
-use Rattle.frames.proofs.feed.Reads as feed-reads
-use Rattle.listing.proofs.one_more.Reads as one-more-reads
-use Rattle.listing.proofs.with_frames.Reads as with-frames-reads
 
 slice-aggregate-feed : tie.Need-slice-aggregate-feed
 slice-aggregate-feed c = search needs

@@ -3,9 +3,6 @@ use Rattle.listing.proofs.Told.{as-printed, prints-none, unlisted-as}
 use borrow.Author.Needs.{needs}
 use Rattle.listing.proofs.text_byte.Statement.{statement}
 use Rattle.listing.proofs.text_byte.Tie as tie
-use Rattle.listing.proofs.text_byte.Reads as reads
-use Rattle.listing.proofs.text_byte.Lts as lts
-use Rattle.listing.proofs.listed_byte.Reads as listed-byte-reads
 
 listed-byte-requires : tie.Need-listed-byte-requires
 listed-byte-requires c κs = search needs
