@@ -13,10 +13,7 @@ pub fn rejected(s: Session, h: Header) -> Stepped
     let own = d.own;
     let at = slots::find(own, Query::Named(h.system));
     if at < 32 {
-        return table::told_of(
-            34,
-            state::with_own(s, slots::with_slot(own, at, slots::free_slot())),
-        );
+        return table::told_of(34, state::free_own(s, at));
     }
     let link = s.link;
     let test = link.linktest;

@@ -66,18 +66,8 @@ fn phase_in(kind: u8, code: u32, left: usize, value: usize) -> Phase {
     }
 }
 
-fn counts_in(b: &[u8]) -> [u32; 16] {
-    let mut awaited = [0u32; 16];
-    let mut i: usize = 0;
-    while i < 16 {
-        awaited[i] = records::word_at(b, 25 + 4 * i);
-        i += 1;
-    }
-    awaited
-}
-
 // N (4), read (4), level (4), phase (1), code (4), left (4), value (4), sixteen counts (4 each)
-fn reader_in(b: &[u8]) -> Reader {
+fn reader_in(b: &[u8], counts: &[u8]) -> Reader {
     let left = records::word_at(b, 17) as usize;
     let value = records::word_at(b, 21) as usize;
     let phase = phase_in(
@@ -86,7 +76,8 @@ fn reader_in(b: &[u8]) -> Reader {
         left,
         value,
     );
-    let awaited = counts_in(b);
+    let mut awaited = [0u32; 16];
+    records::words_in(counts, &mut awaited);
     Reader {
         size: records::word_at(b, 0) as usize,
         read: records::word_at(b, 4) as usize,
@@ -100,7 +91,7 @@ fn state(r: Reader, b: &[u8]) -> Reader {
     if b.len() < 89 {
         return bad(r);
     }
-    let next = reader_in(b);
+    let next = reader_in(b, &b[25..]);
     if reader::allows_state(next) {
         put(b"state\tallowed\n");
     } else {

@@ -37,10 +37,7 @@ fn secondary(s: Session, h: Header) -> Stepped
     let own = d.own;
     let at = slots::find(own, Query::Answered(h.system, frame::stream_of(h), h.byte3));
     if at < 32 {
-        return table::told_of(
-            31,
-            state::with_own(s, slots::with_slot(own, at, slots::free_slot())),
-        );
+        return table::told_of(31, state::free_own(s, at));
     }
     table::told_of(32, s)
 }

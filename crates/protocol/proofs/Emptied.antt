@@ -10,11 +10,11 @@ use Rattle.slots.specs.declared.Query.the-variants.{Taken}
 use Rattle.slots.proofs.Found.{no-slots-none, free-not-taken}
 use Rattle.message.specs.declared.Send.{Send}
 use Rattle.state.specs.State.{selected, deselected, gone}
-use Rattle.state.specs.Listed.{allows}
+use Rattle.listed.specs.Listed.{allows}
 use Rattle.state.specs.declared.Session.{Session}
 use Rattle.table.specs.Pick.{pick}
 use Rattle.table.specs.Answer.{answer, told}
-use Rattle.table.specs.Table.{moved, deselectOf, separatedOf, kindOf, cameOf, disconnectOf, phaseNumber, separateOf, wishOf, t6Of, t7Of, t8Of, timerOf, eventOf, stepOf}
+use Rattle.table.specs.Table.{moved, deselectOf, separatedOf, kindOf, cameOf, disconnectOf, separateOf, wishOf, t6Of, t7Of, t8Of, timerOf, eventOf, stepOf}
 use Rattle.table.specs.declared.Stepped.{Stepped}
 use Rattle.table.specs.declared.Event.{Event}
 use Rattle.table.proofs.Cases.{by-pick}
@@ -55,7 +55,7 @@ module _ (s : Session) where
   unfolding eventOf wishOf timerOf disconnectOf t6Of t7Of t8Of
   disconnects-left e text disconnect = either _ _ _ (leaves _ _ (gone-all s)) (refuses 20 s refl)
   disconnects-left e text t6 = either _ _ _ (leaves _ _ (gone-all s)) (refuses 27 s refl)
-  disconnects-left e text t7 = either _ _ _ (either _ _ _ (refuses 27 s refl) (leaves _ _ (gone-all s))) (refuses 27 s refl)
+  disconnects-left e text t7 = either _ _ _ (refuses 27 s refl) (either _ _ _ (leaves _ _ (gone-all s)) (refuses 27 s refl))
   disconnects-left e text t8 = either _ _ _ (leaves _ _ (gone-all s)) (refuses 27 s refl)
 
   module _ (ok : allows s ≡ true) where
@@ -67,7 +67,7 @@ module _ (s : Session) where
     unfolding eventOf cameOf kindOf wishOf deselectOf separatedOf separateOf
     deselects-left e text (deselect-req h) = either _ _ _ (by-phase _ _) (refuses 20 s refl)
     deselects-left e text (separate-req h) = either _ _ _ (by-phase _ _) (refuses 20 s refl)
-    deselects-left e text separate = by-pick (Left NoneOpen) _ _ _ (λ _. leaves _ _ (deselected-none (moved s))) (λ w. refuses (phaseNumber s) s w)
+    deselects-left e text separate = either _ _ _ (either _ _ _ (leaves _ _ (deselected-none (moved s))) (refuses 22 s refl)) (refuses 20 s refl)
 
   -- DISCONNECT, T6, T7 AND T8 LEAVE NO SLOT AND NO LINKTEST OPEN, and the next own number as it was.
   pub disconnected : (e : Event) (text : List ℕ) → Disconnects e → stepOf s e text .number ≡ 0 → Gone s (stepOf s e text .session)

@@ -12,9 +12,9 @@ use Rattle.slots.specs.declared.Slot.{Slot}
 use Rattle.slots.specs.declared.Query.the-variants.{Taken, Named}
 use Rattle.slots.proofs.Found.{found-most, found-least, found-passes, named-taken}
 use Rattle.state.specs.State.{selected}
-use Rattle.state.specs.Listed.{testClosed, allowsPhase, allows}
+use Rattle.listed.specs.Listed.{testClosed, allowsPhase, allows}
 use Rattle.state.specs.declared.Session.{Session}
-use Rattle.state.proofs.Listed.{listed}
+use Rattle.listed.proofs.Listed.{listed}
 use Rattle.protocol.specs.Protocol.{NoneOpen}
 
 pub none-open : (s : Session) → allows s ≡ true → selected s ≡ false → NoneOpen s

@@ -5,7 +5,7 @@ use mathlib.Core.List.{List}
 use mathlib.Core.Path.{_≡_, refl, ap, _∙_}
 use native.Mathlib.Nat.{mod-eq-of-lt}
 use native.Mathlib.Omega.{arith}
-use borrow.Author.Tests.{ltb-true, eq-eqb, eqb-true}
+use borrow.Author.Tests.{ltb-true, eq-eqb}
 use lib.Dec.{eqb, ltb}
 use lib.ListN.{length, set}
 use Rattle.frame.specs.Header.{dataHeader}
@@ -15,30 +15,30 @@ use Rattle.slots.specs.Slots.{free, passes, isThere}
 use Rattle.slots.specs.declared.Slot.{Slot}
 use Rattle.slots.specs.declared.Query.the-variants.{Named}
 use Rattle.slots.proofs.Found.{found-passes, named-taken, named-system}
-use Rattle.slots.proofs.Allowed.{Allowed, allows-facts, facts-allow, closed-allowed, closed-none, primary-range}
+use Rattle.listed.proofs.Allowed.{Allowed, allows-facts, facts-allow, closed-allowed, closed-none, primary-range}
 use Rattle.text.specs.Text.{judgedOf}
 use Rattle.message.specs.declared.Text.{Text}
 use Rattle.message.specs.declared.Text.the-variants.{Empty, Wished}
 use Rattle.message.specs.declared.Send.the-variants.{Nothing, Message}
-use Rattle.state.specs.State.{connected, selected, withReceived}
-use Rattle.state.specs.Listed.{allowsDevice, allowsTest, allowsPhase, allows}
+use Rattle.state.specs.State.{connected, selected, receivedFreed}
+use Rattle.listed.specs.Listed.{allowsDevice, allowsTest, allowsPhase, allows}
 use Rattle.state.specs.declared.Session.{Session}
-use Rattle.state.proofs.Listed.{listed, relisted}
+use Rattle.listed.proofs.Listed.{listed, relisted}
+use Rattle.state.proofs.Phases.{selected-connected}
 use Rattle.table.specs.Pick.{pick}
 use Rattle.table.specs.Answer.{answer, told, sent}
-use Rattle.table.specs.Table.{receivedAt, phaseNumber, whenSelected, replyOf, repliedOf, wishOf, eventOf, stepOf}
+use Rattle.table.specs.Table.{receivedAt, whenSelected, replyOf, repliedOf, wishOf, eventOf, stepOf}
 use Rattle.table.specs.declared.Stepped.{Stepped}
 use Rattle.table.specs.declared.Wish.the-variants.{Reply, Abort}
 use Rattle.table.specs.declared.Event.the-variants.{Wish as onWish}
 use Rattle.table.proofs.Cases.{pick-true, pick-false, by-pick}
-use Rattle.table.proofs.PhaseNumber.{number-selected}
 use Rattle.protocol.specs.Protocol.{primaryAt, Replied}
 
 -- ---- where no received slot has these system bytes, both are 25
 
-module _ (t : Session) (n : ℕ) (ok : allows t ≡ true) (phase : phaseNumber t ≡ 0) (none : isThere (Named n) (t .device .received) ≡ false) where
+module _ (t : Session) (n : ℕ) (ok : allows t ≡ true) (phase : selected t ≡ true) (none : isThere (Named n) (t .device .received) ≡ false) where
   let-through : (r : Stepped) → pick (allows t) (whenSelected t r) (told 14 t) ≡ r
-  let-through r = pick-true (allows t) _ _ ok ∙ pick-true (eqb (phaseNumber t) 0) _ _ (eq-eqb (phaseNumber t) 0 phase)
+  let-through r = pick-true (allows t) _ _ ok ∙ pick-true (connected t) _ _ (selected-connected t phase) ∙ pick-true (selected t) _ _ phase
 
   not-open : (r : Stepped) → pick (isThere (Named n) (t .device .received)) r (told 25 t) ≡ told 25 t
   not-open r = pick-false (isThere (Named n) (t .device .received)) r (told 25 t) none
@@ -53,7 +53,7 @@ module _ (t : Session) (n : ℕ) (ok : allows t ≡ true) (phase : phaseNumber t
 
 -- ---- what goes out closes its slot
 
-module _ (s : Session) (n : ℕ) (size : length (s .device .received) ≡ 32) (ok : allows s ≡ true) (phase : phaseNumber s ≡ 0) where
+module _ (s : Session) (n : ℕ) (size : length (s .device .received) ≡ 32) (ok : allows s ≡ true) (phase : selected s ≡ true) where
   abbrev received : List Slot
   received = s .device .received
 
@@ -61,7 +61,7 @@ module _ (s : Session) (n : ℕ) (size : length (s .device .received) ≡ 32) (o
   at = receivedAt s n
 
   abbrev after : Session
-  after = withReceived s (set received at free)
+  after = receivedFreed s at
 
   allowed : Allowed received
   allowed = allows-facts received size (listed s ok .received)
@@ -71,10 +71,10 @@ module _ (s : Session) (n : ℕ) (size : length (s .device .received) ≡ 32) (o
   after-allowed =
       let l = listed s ok in
       relisted after
-      (record { device = l .device; received = facts-allow (closed-allowed allowed at); own = l .own; test = l .test; phase = rw (number-selected s phase) })
+      (record { device = l .device; received = facts-allow (closed-allowed allowed at); own = l .own; test = l .test; phase = rw phase })
 
-  after-phase : phaseNumber after ≡ 0
-  unfolding phaseNumber connected selected
+  after-phase : selected after ≡ true
+  unfolding selected
   after-phase = phase
 
   after-none : isThere (Named n) (set received at free) ≡ false
@@ -125,16 +125,18 @@ module _ (s : Session) (n f : ℕ) (text : Text) where
   silent k = record { goes = λ some. absurd (some refl) }
 
   -- 14, 20, 22 first
-  gate : (r : Stepped) → (allows s ≡ true → phaseNumber s ≡ 0 → Goes s n f text r) → Goes s n f text (pick (allows s) (whenSelected s r) (told 14 s))
+  gate : (r : Stepped) → (allows s ≡ true → selected s ≡ true → Goes s n f text r) → Goes s n f text (pick (allows s) (whenSelected s r) (told 14 s))
   gate r go =
       by-pick (Goes s n f text) (allows s) (whenSelected s r) (told 14 s)
-      (λ ok. by-pick (Goes s n f text) (eqb (phaseNumber s) 0) r (told (phaseNumber s) s) (λ z. go ok (eqb-true (phaseNumber s) 0 z)) (λ _. silent (phaseNumber s)))
+      (λ ok. by-pick (Goes s n f text) (connected s) (pick (selected s) r (told 22 s)) (told 20 s)
+      (λ _. by-pick (Goes s n f text) (selected s) r (told 22 s) (go ok) (λ _. silent 22))
+      (λ _. silent 20))
       (λ _. silent 14)
 
-  row : length (s .device .received) ≡ 32 → allows s ≡ true → phaseNumber s ≡ 0
+  row : length (s .device .received) ≡ 32 → allows s ≡ true → selected s ≡ true
       → Goes s n f text
       (pick (isThere (Named n) (s .device .received))
-      (answer 0 (withReceived s (set (s .device .received) (receivedAt s n) free)) (sent s false (primaryAt s n .stream) f n text))
+      (answer 0 (receivedFreed s (receivedAt s n)) (sent s false (primaryAt s n .stream) f n text))
       (told 25 s))
   row size ok phase =
       by-pick (Goes s n f text) (isThere (Named n) (s .device .received)) _ (told 25 s)

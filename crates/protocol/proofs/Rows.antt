@@ -3,22 +3,20 @@ use Prim.Native.Nat.{ℕ}
 use mathlib.Core.Bool.{Bool, true, false}
 use mathlib.Core.List.{List}
 use mathlib.Core.Path.{_≡_, refl}
-use borrow.Author.Tests.{eqb-true}
 use lib.Dec.{eqb}
-use lib.ListN.{set}
 use Rattle.frame.specs.Header.{wOf, streamOf}
 use Rattle.frame.specs.declared.Header.{Header}
-use Rattle.slots.specs.Slots.{free, isThere}
+use Rattle.slots.specs.Slots.{isThere}
 use Rattle.slots.specs.declared.Query.the-variants.{Answered}
 use Rattle.text.specs.Text.{judgedOf}
 use Rattle.message.specs.declared.Received.{Received}
 use Rattle.message.specs.declared.Received.the-variants.{Reject, OtherPType, OtherSType, SelectReq, SelectRsp, DeselectReq, DeselectRsp, LinktestReq, LinktestRsp, SeparateReq, Data}
-use Rattle.state.specs.State.{selected, withOwn}
-use Rattle.state.specs.Listed.{allows}
+use Rattle.state.specs.State.{selected, ownFreed}
+use Rattle.listed.specs.Listed.{allows}
 use Rattle.state.specs.declared.Session.{Session}
 use Rattle.table.specs.Pick.{pick}
 use Rattle.table.specs.Answer.{told}
-use Rattle.table.specs.Table.{rejectedOf, selectOf, deselectOf, linktestedOf, separatedOf, s9Of, complainOf, secondaryOf, openedOf, primaryOf, dataOf, dataWhen, kindOf, cameOf, connectOf, disconnectOf, flagOf, phaseNumber, whenSelected, whenGood, sendOf, primaryWishOf, replyOf, repliedOf, linktestOf, separateOf, wishOf, t3Of, t6Of, t7Of, t8Of, timerOf, eventOf, stepOf}
+use Rattle.table.specs.Table.{rejectedOf, selectOf, deselectOf, linktestedOf, separatedOf, s9Of, complainOf, secondaryOf, openedOf, primaryOf, dataOf, dataWhen, kindOf, cameOf, connectOf, disconnectOf, flagOf, whenSelected, whenGood, sendOf, primaryWishOf, replyOf, repliedOf, linktestOf, separateOf, wishOf, t3Of, t6Of, t7Of, t8Of, timerOf, eventOf, stepOf}
 use Rattle.table.specs.declared.Stepped.{Stepped}
 use Rattle.table.specs.declared.Timer.{Timer}
 use Rattle.table.specs.declared.Timer.the-variants.{T3, T6, T7, T8}
@@ -27,7 +25,6 @@ use Rattle.table.specs.declared.Wish.the-variants.{Connect, Disconnect, Flag, P
 use Rattle.table.specs.declared.Event.{Event}
 use Rattle.table.specs.declared.Event.the-variants.{Timer as onTimer, Wish as onWish, Received as onReceived}
 use Rattle.table.proofs.Cases.{by-pick}
-use Rattle.table.proofs.PhaseNumber.{by-number, number-selected}
 use Rattle.protocol.specs.Protocol.{delivers, isData, acts, answeredAt}
 use Rattle.protocol.proofs.Open.{own-selected}
 
@@ -38,7 +35,7 @@ pub record Answers (s : Session) (e : Event) (h : Header) (r : Stepped) : Type 0
   pub in-selected : selected s ≡ true
   pub no-w : wOf h ≡ false
   pub there : isThere (Answered (h .system) (streamOf h) (h .byte3)) (s .device .own) ≡ true
-  pub is : r ≡ told 31 (withOwn s (set (s .device .own) (answeredAt s h) free))
+  pub is : r ≡ told 31 (ownFreed s (answeredAt s h))
 
 pub data Does (s : Session) (e : Event) (text : List ℕ) (r : Stepped) : Type 0 where
   -- a number, and nothing else
@@ -61,9 +58,7 @@ module _ (s : Session) (text : List ℕ) where
 
     when-selected : (r : Stepped) → (selected s ≡ true → Does s e text r) → Does s e text (whenSelected s r)
     when-selected r go =
-        by-pick (Does s e text) (eqb (phaseNumber s) 0) r (told (phaseNumber s) s)
-        (λ z. go (number-selected s (eqb-true (phaseNumber s) 0 z)))
-        (λ _. stays (phaseNumber s) (by-number s (λ k. delivers k ≡ false) (λ _. refl) refl refl) refl)
+        either _ _ _ (by-pick (Does s e text) (selected s) r (told 22 s) go (λ _. stays 22 refl refl)) (stays 20 refl refl)
 
     when-good : (r : Stepped) → selected s ≡ true → Does s e text r → Does s e text (whenGood s text r)
     when-good r z d = either _ _ _ d (judges z refl)
@@ -136,7 +131,7 @@ module _ (s : Session) (text : List ℕ) where
     timer-does (T3 n) =
         by-pick (Does s (onTimer (T3 n)) text) _ _ _ (λ t. carries (own-selected s ok n t) refl refl) (λ _. stays 27 refl refl)
     timer-does T6 = either _ _ _ (links refl refl refl) (stays 27 refl refl)
-    timer-does T7 = either _ _ _ (either _ _ _ (stays 27 refl refl) (links refl refl refl)) (stays 27 refl refl)
+    timer-does T7 = either _ _ _ (stays 27 refl refl) (either _ _ _ (links refl refl refl) (stays 27 refl refl))
     timer-does T8 = either _ _ _ (links refl refl refl) (stays 27 refl refl)
 
     event-does : (e : Event) → Does s e text (eventOf s e text)

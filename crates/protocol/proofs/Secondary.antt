@@ -17,12 +17,12 @@ use Rattle.slots.specs.Slots.{free, passes, foundAt, isThere}
 use Rattle.slots.specs.declared.Slot.{Slot}
 use Rattle.slots.specs.declared.Query.the-variants.{Named, Answered}
 use Rattle.slots.proofs.Found.{found-passes}
-use Rattle.slots.proofs.Allowed.{Allowed, allows-facts, taken-place, closed-none}
+use Rattle.listed.proofs.Allowed.{Allowed, allows-facts, taken-place, closed-none}
 use Rattle.text.specs.Text.{judgedOf}
 use Rattle.text.proofs.Judged.{judged-range}
 use Rattle.message.specs.declared.Received.the-variants.{Data}
 use Rattle.state.specs.declared.Session.{Session}
-use Rattle.state.proofs.Listed.{listed}
+use Rattle.listed.proofs.Listed.{listed}
 use Rattle.table.specs.Table.{stepOf}
 use Rattle.table.specs.declared.Stepped.{Stepped}
 use Rattle.table.specs.declared.Event.{Event}

@@ -5,7 +5,7 @@ use mathlib.Core.List.{List}
 use mathlib.Core.Logic.{_⊎_}
 use mathlib.Core.Path.{_≡_}
 use lib.Dec.{eqb}
-use lib.ListN.{getD, set}
+use lib.ListN.{getD}
 use Rattle.frame.specs.Header.{wOf, streamOf}
 use Rattle.frame.specs.declared.Header.{Header}
 use Rattle.slots.specs.Slots.{free, foundAt, isThere}
@@ -16,7 +16,7 @@ use Rattle.message.specs.declared.Received.the-variants.{DeselectReq, SeparateR
 use Rattle.message.specs.declared.Text.{Text}
 use Rattle.message.specs.declared.Send.{Send}
 use Rattle.message.specs.declared.Send.the-variants.{Nothing, Message}
-use Rattle.state.specs.State.{withReceived, withOwn}
+use Rattle.state.specs.State.{receivedFreed, ownFreed}
 use Rattle.state.specs.declared.Session.{Session}
 use Rattle.table.specs.Answer.{told}
 use Rattle.table.specs.Table.{receivedAt, stepOf}
@@ -67,7 +67,7 @@ pub record Replied (s : Session) (n f : ℕ) (text : Text) (r : Stepped) : Type 
   pub stream : streamOf header ≡ primaryAt s n .stream
   pub function : header .byte3 ≡ f
   pub no-w : wOf header ≡ false
-  pub closes : r .session ≡ withReceived s (set (s .device .received) (receivedAt s n) free)
+  pub closes : r .session ≡ receivedFreed s (receivedAt s n)
   pub closed : isThere (Named n) (r .session .device .received) ≡ false
   pub not-again : (later : List ℕ) → judgedOf later ≡ 0 → stepOf (r .session) (onWish (Reply n)) later ≡ told 25 (r .session)
   pub nor-aborted : (later : List ℕ) → stepOf (r .session) (onWish (Abort n)) later ≡ told 25 (r .session)
@@ -94,7 +94,7 @@ pub record Delivered (s : Session) (h : Header) (r : Stepped) : Type 0 where
   pub place : answeredAt s h < 32
   pub awaits : Awaits h (ownOf s (answeredAt s h))
   pub no-w : wOf h ≡ false
-  pub closes : r .session ≡ withOwn s (set (s .device .own) (answeredAt s h) free)
+  pub closes : r .session ≡ ownFreed s (answeredAt s h)
   pub closed : isThere (Named (h .system)) (r .session .device .own) ≡ false
   pub silent : r .send ≡ Nothing
 

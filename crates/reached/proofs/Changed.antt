@@ -8,15 +8,15 @@ use borrow.Author.Tests.{eq-eqb, ne-eqb}
 use lib.ListN.{set}
 use lib.Seq.{getD-set-other}
 use Rattle.slots.specs.Slots.{free, slotOf, noSlots, noTest, testOf, passes, foundAt, isPrimary}
-use Rattle.slots.specs.Fresh.{isHeld, oneMore}
+use Rattle.fresh.specs.Fresh.{isHeld, oneMore}
 use Rattle.slots.specs.declared.Slot.{Slot}
 use Rattle.slots.specs.declared.Linktest.{Linktest}
 use Rattle.slots.specs.declared.Query.{Query}
 use Rattle.slots.specs.declared.Query.the-variants.{Taken, Named}
 use Rattle.slots.proofs.Found.{stored-none, no-slots-none, free-not-taken, free-not-named}
-use Rattle.slots.proofs.Fresh.{one-more-is, fresh-free, fresh-small, not-in-own, not-in-test}
-use Rattle.slots.proofs.Allowed.{Allowed, no-slots-allowed, closed-allowed, opened-allowed}
-use Rattle.state.specs.State.{isConnected, isSelected, withPhase, withTest, withReceived, withOwn, withFlag, deselected, gone, fresh}
+use Rattle.fresh.proofs.Fresh.{one-more-is, fresh-free, fresh-small, not-in-own, not-in-test}
+use Rattle.listed.proofs.Allowed.{Allowed, no-slots-allowed, closed-allowed, opened-allowed}
+use Rattle.state.specs.State.{isConnected, isSelected, withPhase, withTest, withReceived, withOwn, withFlag, receivedFreed, ownFreed, deselected, gone, fresh}
 use Rattle.state.specs.declared.Phase.{Phase}
 use Rattle.state.specs.declared.Phase.the-variants.{NotSelected, Selected}
 use Rattle.state.specs.declared.Session.{Session}
@@ -161,10 +161,10 @@ module _ {s : Session} (k : Kept s) where
   pub kept-gone : Kept (gone s)
   kept-gone = changed no-slots-allowed (own-untested (own-emptied (k .own))) (phased-emptied (λ c. refl))
 
-  pub kept-own-closed : (at : ℕ) → Kept (withOwn s (set (s .device .own) at free))
+  pub kept-own-closed : (at : ℕ) → Kept (ownFreed s at)
   kept-own-closed at = changed (k .received) (own-closed (k .own) at) (phased-own (k .phased) (k .own .table) at)
 
-  pub kept-received-closed : (at : ℕ) → Kept (withReceived s (set (s .device .received) at free))
+  pub kept-received-closed : (at : ℕ) → Kept (receivedFreed s at)
   kept-received-closed at = changed (closed-allowed (k .received) at) (k .own) (phased-received (k .phased) (k .received) at)
 
   module _ (e : isSelected (s .link .phase) ≡ true) (at m f : ℕ) (p : isPrimary m f ≡ true) where

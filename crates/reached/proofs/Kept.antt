@@ -8,19 +8,20 @@ use borrow.Author.Tests.{le-leb, leb-true, le-ltb, ltb-false, eq-eqb, eqb-true, 
 use lib.Dec.{eqb, leb}
 use lib.ListN.{getD, length}
 use Rattle.wire.proofs.Choice.{both}
-use Rattle.slots.specs.Slots.{foundAt, isThere, allowsSlots}
+use Rattle.slots.specs.Slots.{foundAt, isThere}
+use Rattle.listed.specs.Tables.{allowsSlots}
 use Rattle.slots.specs.declared.Slot.{Slot}
 use Rattle.slots.specs.declared.Linktest.{Linktest}
 use Rattle.slots.specs.declared.Query.{Query}
 use Rattle.slots.specs.declared.Query.the-variants.{Taken, Named}
 use Rattle.slots.proofs.Found.{found-most}
-use Rattle.slots.proofs.Allowed.{Allowed, facts-allow, allows-facts}
+use Rattle.listed.proofs.Allowed.{Allowed, facts-allow, allows-facts}
 use Rattle.state.specs.State.{connected, selected, isConnected, isSelected}
-use Rattle.state.specs.Listed.{allowsDevice, allowsTest, testClosed, allowsPhase, allows}
+use Rattle.listed.specs.Listed.{allowsDevice, allowsTest, testClosed, allowsPhase, allows}
 use Rattle.state.specs.declared.Phase.{Phase}
 use Rattle.state.specs.declared.Phase.the-variants.{NotConnected, NotSelected, Selected}
 use Rattle.state.specs.declared.Session.{Session}
-use Rattle.state.proofs.Listed.{listed, relisted}
+use Rattle.listed.proofs.Listed.{listed, relisted}
 use Rattle.reached.specs.Reached.{Sized}
 
 -- the own slots, the linktest and the next own number

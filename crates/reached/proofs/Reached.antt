@@ -9,9 +9,9 @@ use Rattle.slots.specs.Slots.{free, passes}
 use Rattle.slots.specs.declared.Query.the-variants.{Named}
 use Rattle.slots.proofs.Found.{none-at, taken-named}
 use Rattle.state.specs.State.{sessionOf}
-use Rattle.state.specs.Listed.{allows}
+use Rattle.listed.specs.Listed.{allows}
 use Rattle.state.specs.declared.Session.{Session}
-use Rattle.state.proofs.New.{made-allowed}
+use Rattle.listed.proofs.Made.{made-allowed}
 use Rattle.table.specs.Table.{stepOf}
 use Rattle.reached.specs.Reached.{Happened, after, AllFit, Sized, OneEach}
 use Rattle.reached.proofs.Kept.{Kept, kept-allowed, allowed-kept}

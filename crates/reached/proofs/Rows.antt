@@ -4,7 +4,7 @@ use mathlib.Core.Bool.{Bool, true, false, false≢true}
 use mathlib.Core.List.{List}
 use mathlib.Core.Path.{_≡_, refl, sym, ap, _∙_}
 use native.Mathlib.Omega.{arith}
-use borrow.Author.Tests.{leb-true, le-leb, eq-eqb, eqb-true, eqb-false}
+use borrow.Author.Tests.{leb-true, le-leb, eq-eqb, eqb-false}
 use lib.Dec.{eqb}
 use lib.ListN.{getD}
 use Rattle.frame.specs.Header.{streamOf}
@@ -16,7 +16,7 @@ use Rattle.message.specs.declared.Received.the-variants.{Reject, OtherPType, Ot
 use Rattle.state.specs.State.{connected, selected}
 use Rattle.state.specs.declared.Session.{Session}
 use Rattle.table.specs.Pick.{pick}
-use Rattle.table.specs.Table.{rejectedOf, selectOf, deselectOf, linktestedOf, separatedOf, s9Of, complainOf, secondaryOf, openedOf, primaryOf, dataOf, dataWhen, kindOf, cameOf, connectOf, disconnectOf, flagOf, phaseNumber, sendOf, primaryWishOf, replyOf, repliedOf, linktestOf, separateOf, wishOf, t3Of, t6Of, t7Of, t8Of, timerOf, eventOf, stepOf}
+use Rattle.table.specs.Table.{rejectedOf, selectOf, deselectOf, linktestedOf, separatedOf, s9Of, complainOf, secondaryOf, openedOf, primaryOf, dataOf, dataWhen, kindOf, cameOf, connectOf, disconnectOf, flagOf, sendOf, primaryWishOf, replyOf, repliedOf, linktestOf, separateOf, wishOf, t3Of, t6Of, t7Of, t8Of, timerOf, eventOf, stepOf}
 use Rattle.table.specs.declared.Stepped.{Stepped}
 use Rattle.table.specs.declared.Timer.{Timer}
 use Rattle.table.specs.declared.Timer.the-variants.{T3, T6, T7, T8}
@@ -25,7 +25,6 @@ use Rattle.table.specs.declared.Wish.the-variants.{Connect, Disconnect, Flag, P
 use Rattle.table.specs.declared.Event.{Event}
 use Rattle.table.specs.declared.Event.the-variants.{Timer as onTimer, Wish as onWish, Received as onReceived}
 use Rattle.table.proofs.Cases.{by-pick}
-use Rattle.table.proofs.PhaseNumber.{number-selected}
 use Rattle.reached.specs.Reached.{Fits}
 use Rattle.reached.proofs.Kept.{Kept, none-there}
 use Rattle.reached.proofs.Changed.{kept-moved, kept-untested, kept-tested, kept-connected, kept-selected, kept-deselected, kept-gone, kept-own-closed, kept-own-opened, kept-received-closed, kept-received-opened, kept-flag}
@@ -130,11 +129,11 @@ module _ (s : Session) (k : Kept s) where
   wish-stays Disconnect text = either _ _ _ (kept-gone k) k
   wish-stays (Flag m b) text = flag-stays m b
   wish-stays (Primary w m f) text =
-      by-pick Stays _ _ _ (λ e. either _ _ _ (by-pick Stays _ _ _ (λ p. send-stays w m f (number-selected s (eqb-true (phaseNumber s) 0 e)) p) (λ p. k)) k) (λ e. k)
-  wish-stays (Reply n) text = either _ _ _ (either _ _ _ (either _ _ _ (kept-received-closed k _) k) k) k
-  wish-stays (Abort n) text = either _ _ _ (either _ _ _ (kept-received-closed k _) k) k
+      either _ _ _ (by-pick Stays _ _ _ (λ e. either _ _ _ (by-pick Stays _ _ _ (λ p. send-stays w m f e p) (λ p. k)) k) (λ e. k)) k
+  wish-stays (Reply n) text = either _ _ _ (either _ _ _ (either _ _ _ (either _ _ _ (kept-received-closed k _) k) k) k) k
+  wish-stays (Abort n) text = either _ _ _ (either _ _ _ (either _ _ _ (kept-received-closed k _) k) k) k
   wish-stays Linktest text = linktest-stays
-  wish-stays Separate text = either _ _ _ (kept-deselected (kept-moved k)) k
+  wish-stays Separate text = either _ _ _ (either _ _ _ (kept-deselected (kept-moved k)) k) k
 
   -- ---- timers
 
@@ -142,7 +141,7 @@ module _ (s : Session) (k : Kept s) where
   unfolding timerOf t3Of t6Of t7Of t8Of
   timer-stays (T3 n) = either _ _ _ (kept-own-closed (kept-moved k) _) k
   timer-stays T6 = either _ _ _ (kept-gone k) k
-  timer-stays T7 = either _ _ _ (either _ _ _ k (kept-gone k)) k
+  timer-stays T7 = either _ _ _ k (either _ _ _ (kept-gone k) k)
   timer-stays T8 = either _ _ _ (kept-gone k) k
 
   -- ---- every event

@@ -6,7 +6,7 @@ use mathlib.Core.Path.{_≡_}
 use lib.ListN.{length, getD}
 use Rattle.frame.specs.declared.Header.{Header}
 use Rattle.slots.specs.Slots.{free}
-use Rattle.slots.specs.Fresh.{isHeld}
+use Rattle.fresh.specs.Fresh.{isHeld}
 use Rattle.slots.specs.declared.Slot.{Slot}
 use Rattle.message.specs.declared.Received.the-variants.{Data}
 use Rattle.state.specs.State.{fresh}

@@ -1,4 +1,5 @@
 pub mod Laws
 pub mod Fields
+pub mod Words
 pub mod Back
 pub mod Determined

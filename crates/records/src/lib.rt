@@ -6,7 +6,7 @@ ghost use lib.ListN.{length, take, drop, set};
 ghost use lib.Seq.{sets};
 ghost use Rattle.wire.specs.Lent.{outAfter};
 ghost use Rattle.records.specs.Hex.{digitOf, onDigit, placeOn, isHex, bytesIn, saidOf, saidAfter, glyphOf, hexOf, printedOf};
-ghost use Rattle.records.specs.Fields.{fieldOf};
+ghost use Rattle.records.specs.Fields.{fieldOf, wordsIn};
 use wire::Counted;
 
 // ---- bytes in hex
@@ -197,6 +197,19 @@ pub fn double_at(s: &[u8], at: usize) -> u64
     ensures { λ r. ⌜ r ≡ fieldOf 8 (now (s .entry)) at ⌝ }
 {
     wire::number(part(s, at, 8))
+}
+
+// Puts the numbers of four bytes each that s has at the start of out, as far as there is room for them.
+pub fn words_in(s: &[u8], out: &mut [u32])
+    ensures { λ _. ⌜ now (out .exit) ≡ sets (now (out .entry)) 0 (wordsIn (now (s .entry))) ⌝ }
+{
+    let mut i: usize = 0;
+    let mut at: usize = 0;
+    while i < out.len() && 4 <= s.len() - at {
+        out[i] = word_at(s, at);
+        i += 1;
+        at += 4;
+    }
 }
 
 // ---- room

@@ -35,15 +35,8 @@ fn primary_wish(s: Session, w: bool, m: u8, f: u8) -> Stepped
 pub fn wished_primary(s: Session, w: bool, m: u8, f: u8, text: &[u8]) -> Stepped
     ensures { λ r. ⌜ r ≡ whenSelected s (whenGood s (now (text .entry)) (primaryWishOf s w m f)) ⌝ }
 {
-    let p = wishes::phase_number(s);
-    if p != 0 {
-        return table::told_of(p, s);
-    }
-    let v = text::judge(text);
-    if v != 0 {
-        return table::told_of(v, s);
-    }
-    primary_wish(s, w, m, f)
+    let r = primary_wish(s, w, m, f);
+    table::when_selected(s, table::when_good(s, text, r))
 }
 
 // The reply of a function and a text to the received primary with these system bytes.
@@ -55,8 +48,11 @@ pub fn replied(s: Session, n: u32, f: u8, text: Text) -> Stepped
     let at = slots::find(received, Query::Named(n));
     if at < 32 {
         let x = received[at];
-        let t = state::with_received(s, slots::with_slot(received, at, slots::free_slot()));
-        return table::answer_of(0, t, table::sent_of(s, false, x.stream, f, n, text));
+        return table::answer_of(
+            0,
+            state::free_received(s, at),
+            table::sent_of(s, false, x.stream, f, n, text),
+        );
     }
     table::told_of(25, s)
 }
@@ -64,9 +60,5 @@ pub fn replied(s: Session, n: u32, f: u8, text: Text) -> Stepped
 pub fn wished_abort(s: Session, n: u32) -> Stepped
     ensures { λ r. ⌜ r ≡ whenSelected s (abortOf s n) ⌝ }
 {
-    let p = wishes::phase_number(s);
-    if p != 0 {
-        return table::told_of(p, s);
-    }
-    replied(s, n, 0, Text::Empty)
+    table::when_selected(s, replied(s, n, 0, Text::Empty))
 }

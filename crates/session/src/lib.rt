@@ -1,6 +1,6 @@
 ghost use mathlib.Core.Path.{_≡_};
 ghost use mathlib.Core.Bool.{true};
-ghost use Rattle.slots.specs.Slots.{allowsSlots};
+ghost use Rattle.listed.specs.Tables.{allowsSlots};
 ghost use Rattle.table.specs.Table.{whenSelected, whenGood, replyOf, wishOf, eventOf, stepOf};
 use message::Text;
 use slots::Query;
@@ -27,15 +27,8 @@ fn wished_reply(s: Session, n: u32, text: &[u8]) -> Stepped
     requires { ⌜ allowsSlots (s .device .received) ≡ true ⌝ }
     ensures { λ r. ⌜ r ≡ whenSelected s (whenGood s (now (text .entry)) (replyOf s n)) ⌝ }
 {
-    let p = wishes::phase_number(s);
-    if p != 0 {
-        return table::told_of(p, s);
-    }
-    let v = text::judge(text);
-    if v != 0 {
-        return table::told_of(v, s);
-    }
-    reply(s, n)
+    let r = reply(s, n);
+    table::when_selected(s, table::when_good(s, text, r))
 }
 
 fn wished(s: Session, w: Wish, text: &[u8]) -> Stepped
@@ -69,7 +62,7 @@ fn on_event(s: Session, e: Event, text: &[u8]) -> Stepped
 pub fn step(s: Session, e: Event, text: &[u8]) -> Stepped
     ensures { λ r. ⌜ r ≡ stepOf s e (now (text .entry)) ⌝ }
 {
-    if state::allows_state(s) {
+    if listed::allows_state(s) {
         return on_event(s, e, text);
     }
     table::told_of(14, s)

@@ -9,11 +9,7 @@ use Rattle.slots.proofs.is_running.Reads as is-running-reads
 use Rattle.slots.proofs.is_match.Reads as is-match-reads
 use Rattle.slots.proofs.find.Reads as find-reads
 use Rattle.slots.proofs.with_slot.Reads as with-slot-reads
-use Rattle.slots.proofs.is_held.Reads as is-held-reads
-use Rattle.slots.proofs.one_more.Reads as one-more-reads
-use Rattle.slots.proofs.fresh_number.Reads as fresh-number-reads
 use Rattle.slots.proofs.is_primary.Reads as is-primary-reads
-use Rattle.slots.proofs.allows_slots.Reads as allows-slots-reads
 
 free-slot-one : (κs : _) (a : _) (r r′ : _) (s s′ : _) → free-slot-reads.Post κs a r s → free-slot-reads.Post κs a r′ s′ → r ≡ r′
 free-slot-one κs a r r′ s s′ p q = p ∙ sym q
@@ -42,17 +38,5 @@ find-one κs a r r′ s s′ p q = p ∙ sym q
 with-slot-one : (κs : _) (a : _) (r r′ : _) (s s′ : _) → with-slot-reads.Post κs a r s → with-slot-reads.Post κs a r′ s′ → r ≡ r′
 with-slot-one κs a r r′ s s′ p q = p ∙ sym q
 
-is-held-one : (κs : _) (a : _) (r r′ : _) (s s′ : _) → is-held-reads.Post κs a r s → is-held-reads.Post κs a r′ s′ → r ≡ r′
-is-held-one κs a r r′ s s′ p q = p ∙ sym q
-
-one-more-one : (κs : _) (a : _) (r r′ : _) (s s′ : _) → one-more-reads.Post κs a r s → one-more-reads.Post κs a r′ s′ → r ≡ r′
-one-more-one κs a r r′ s s′ p q = p ∙ sym q
-
-fresh-number-one : (κs : _) (a : _) (r r′ : _) (s s′ : _) → fresh-number-reads.Post κs a r s → fresh-number-reads.Post κs a r′ s′ → r ≡ r′
-fresh-number-one κs a r r′ s s′ p q = p ∙ sym q
-
 is-primary-one : (κs : _) (a : _) (r r′ : _) (s s′ : _) → is-primary-reads.Post κs a r s → is-primary-reads.Post κs a r′ s′ → r ≡ r′
 is-primary-one κs a r r′ s s′ p q = p ∙ sym q
-
-allows-slots-one : (κs : _) (a : _) (r r′ : _) (s s′ : _) → allows-slots-reads.Post κs a r s → allows-slots-reads.Post κs a r′ s′ → r ≡ r′
-allows-slots-one κs a r r′ s s′ p q = p ∙ sym q

@@ -3,7 +3,7 @@ use Prim.Native.Nat.{ℕ, zero, suc, _+_, _%_}
 use mathlib.Core.Bool.{Bool, true, false, not, cond}
 use mathlib.Core.List.{List, [], _∷_}
 use lib.Dec.{eqb, leb, ltb}
-use lib.ListN.{getD, set, replicate}
+use lib.ListN.{replicate}
 use Rattle.slots.specs.declared.Slot.{Slot}
 use Rattle.slots.specs.declared.Linktest.{Linktest}
 use Rattle.slots.specs.declared.Query.{Query}
@@ -51,23 +51,6 @@ isThere q l = ltb (foundAt q l) 32
 abbrev pub runs : Linktest → ℕ → Bool
 runs t n = cond (t .running) (eqb (t .system) n) false
 
--- ---- which tables the list behind 14 allows
-
--- a stream of 1 to 127, and an odd function but 255
+-- a message may be a primary: a stream of 1 to 127, and an odd function but 255
 abbrev pub isPrimary : ℕ → ℕ → Bool
 isPrimary m f = cond (leb 1 m) (cond (leb m 127) (cond (eqb (f % 2) 1) (leb f 253) false) false) false
-
--- a free slot is all zero; a taken one is the first with its system bytes, and holds a primary's stream and function
-abbrev pub allowsSlot : List Slot → ℕ → Slot → Bool
-allowsSlot l i s =
-    cond (s .taken)
-    (cond (eqb (foundAt (Named (s .system)) l) i) (isPrimary (s .stream) (s .function)) false)
-    (cond (eqb (s .system) 0) (cond (eqb (s .stream) 0) (eqb (s .function) 0) false) false)
-
--- each of the first k slots is allowed
-unfoldable pub allowsFirst : List Slot → ℕ → Bool
-allowsFirst l zero = true
-allowsFirst l (suc k) = cond (allowsSlot l k (getD l k free)) (allowsFirst l k) false
-
-unfoldable pub allowsSlots : List Slot → Bool
-allowsSlots l = allowsFirst l 32

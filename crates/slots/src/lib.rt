@@ -1,8 +1,6 @@
 ghost use mathlib.Core.Path.{_≡_};
 ghost use lib.ListN.{set};
-ghost use Prim.Native.Nat.{_<_};
-ghost use Rattle.slots.specs.Slots.{free, slotOf, noSlots, noTest, testOf, passes, foundAt, isThere, runs, isPrimary, allowsSlot, allowsSlots};
-ghost use Rattle.slots.specs.Fresh.{isHeld, oneMore, freshOf};
+ghost use Rattle.slots.specs.Slots.{free, slotOf, noSlots, noTest, testOf, passes, foundAt, runs, isPrimary};
 
 // An open message: its system bytes, stream and function. A free slot is all zero.
 pub struct Slot {
@@ -136,40 +134,6 @@ pub fn with_slot(slots: [Slot; 32], at: usize, s: Slot) -> [Slot; 32]
     t
 }
 
-// Whether an own slot or the linktest holds a number.
-pub fn is_held(own: [Slot; 32], t: Linktest, system: u32) -> bool
-    ensures { λ r. ⌜ r ≡ isHeld own t system ⌝ }
-{
-    if find(own, Query::Named(system)) < 32 {
-        return true;
-    }
-    is_running(t, system)
-}
-
-// One more, wrapping.
-pub fn one_more(n: u32) -> u32
-    ensures { λ r. ⌜ r ≡ oneMore n ⌝ }
-{
-    if n == 0xFFFF_FFFF { 0 } else { n + 1 }
-}
-
-// The first number from next on that is not held. 32 slots and a linktest hold at most 33, so that the 34th is the last that is looked at.
-pub fn fresh_number(own: [Slot; 32], t: Linktest, next: u32) -> u32
-    ensures { λ r. ⌜ r ≡ freshOf own t next ⌝ }
-{
-    let mut n = next;
-    let mut tried: usize = 0;
-    while tried < 33 {
-        if is_held(own, t, n) {
-            n = one_more(n);
-            tried += 1;
-        } else {
-            return n;
-        }
-    }
-    n
-}
-
 // Whether a message may be a primary: a stream of 1 to 127, an odd function but 255.
 pub fn is_primary(stream: u8, function: u8) -> bool
     ensures { λ r. ⌜ r ≡ isPrimary stream function ⌝ }
@@ -184,37 +148,4 @@ pub fn is_primary(stream: u8, function: u8) -> bool
         return false;
     }
     function <= 253
-}
-
-fn allows_slot(slots: [Slot; 32], i: usize, s: Slot) -> bool
-    ensures { λ r. ⌜ r ≡ allowsSlot slots i s ⌝ }
-{
-    if s.taken {
-        if find(slots, Query::Named(s.system)) != i {
-            return false;
-        }
-        return is_primary(s.stream, s.function);
-    }
-    if s.system != 0 {
-        return false;
-    }
-    if s.stream != 0 {
-        return false;
-    }
-    s.function == 0
-}
-
-// Whether the list behind 14 allows a table.
-pub fn allows_slots(slots: [Slot; 32]) -> bool
-    ensures { λ r. ⌜ r ≡ allowsSlots slots ⌝ }
-{
-    let mut i: usize = 0;
-    while i < 32 {
-        if allows_slot(slots, i, slots[i]) {
-            i += 1;
-        } else {
-            return false;
-        }
-    }
-    true
 }

@@ -9,11 +9,12 @@ use Rattle.state.proofs.with_next.Reads as with-next-reads
 use Rattle.state.proofs.with_received.Reads as with-received-reads
 use Rattle.state.proofs.with_own.Reads as with-own-reads
 use Rattle.state.proofs.with_flag.Reads as with-flag-reads
+use Rattle.state.proofs.free_received.Reads as free-received-reads
+use Rattle.state.proofs.free_own.Reads as free-own-reads
 use Rattle.state.proofs.deselect.Reads as deselect-reads
 use Rattle.state.proofs.close.Reads as close-reads
 use Rattle.state.proofs.fresh_number.Reads as fresh-number-reads
 use Rattle.state.proofs.numbered_by.Reads as numbered-by-reads
-use Rattle.state.proofs.allows_state.Reads as allows-state-reads
 
 new-session-one : (κs : _) (a : _) (r r′ : _) (s s′ : _) → new-session-reads.Post κs a r s → new-session-reads.Post κs a r′ s′ → r ≡ r′
 new-session-one κs a r r′ s s′ p q = p ∙ sym q
@@ -42,6 +43,12 @@ with-own-one κs a r r′ s s′ p q = p ∙ sym q
 with-flag-one : (κs : _) (a : _) (r r′ : _) (s s′ : _) → with-flag-reads.Post κs a r s → with-flag-reads.Post κs a r′ s′ → r ≡ r′
 with-flag-one κs a r r′ s s′ p q = p ∙ sym q
 
+free-received-one : (κs : _) (a : _) (r r′ : _) (s s′ : _) → free-received-reads.Post κs a r s → free-received-reads.Post κs a r′ s′ → r ≡ r′
+free-received-one κs a r r′ s s′ p q = p ∙ sym q
+
+free-own-one : (κs : _) (a : _) (r r′ : _) (s s′ : _) → free-own-reads.Post κs a r s → free-own-reads.Post κs a r′ s′ → r ≡ r′
+free-own-one κs a r r′ s s′ p q = p ∙ sym q
+
 deselect-one : (κs : _) (a : _) (r r′ : _) (s s′ : _) → deselect-reads.Post κs a r s → deselect-reads.Post κs a r′ s′ → r ≡ r′
 deselect-one κs a r r′ s s′ p q = p ∙ sym q
 
@@ -53,6 +60,3 @@ fresh-number-one κs a r r′ s s′ p q = p ∙ sym q
 
 numbered-by-one : (κs : _) (a : _) (r r′ : _) (s s′ : _) → numbered-by-reads.Post κs a r s → numbered-by-reads.Post κs a r′ s′ → r ≡ r′
 numbered-by-one κs a r r′ s s′ p q = p ∙ sym q
-
-allows-state-one : (κs : _) (a : _) (r r′ : _) (s s′ : _) → allows-state-reads.Post κs a r s → allows-state-reads.Post κs a r′ s′ → r ≡ r′
-allows-state-one κs a r r′ s s′ p q = p ∙ sym q

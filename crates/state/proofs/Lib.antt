@@ -1,3 +1,3 @@
 pub mod New
-pub mod Listed
+pub mod Phases
 pub mod Determined

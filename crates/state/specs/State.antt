@@ -4,8 +4,8 @@ use mathlib.Core.Bool.{Bool, true, false, cond}
 use mathlib.Core.List.{List}
 use lib.Dec.{leb}
 use lib.ListN.{set, replicate}
-use Rattle.slots.specs.Slots.{noSlots, noTest}
-use Rattle.slots.specs.Fresh.{oneMore, freshOf}
+use Rattle.slots.specs.Slots.{free, noSlots, noTest}
+use Rattle.fresh.specs.Fresh.{oneMore, freshOf}
 use Rattle.slots.specs.declared.Slot.{Slot}
 use Rattle.slots.specs.declared.Linktest.{Linktest}
 use Rattle.state.specs.declared.Phase.{Phase}
@@ -62,6 +62,13 @@ abbrev pub withFlag : Session → ℕ → Bool → Session
 withFlag s m b = record { link = s .link; device = record { id = s .device .id; flags = set (s .device .flags) m b; received = s .device .received; own = s .device .own } }
 
 -- ---- several
+
+-- the slot at a place freed
+abbrev pub receivedFreed : Session → ℕ → Session
+receivedFreed s at = withReceived s (set (s .device .received) at free)
+
+abbrev pub ownFreed : Session → ℕ → Session
+ownFreed s at = withOwn s (set (s .device .own) at free)
 
 -- the data slots emptied
 abbrev pub emptied : Session → Session

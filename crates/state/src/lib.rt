@@ -1,8 +1,6 @@
 ghost use mathlib.Core.Path.{_≡_};
-ghost use Rattle.state.specs.State.{sessionOf, madeOf, connected, selected, withPhase, withTest, withNext, withReceived, withOwn, withFlag, emptied, deselected, gone, fresh, numbered};
-ghost use Rattle.state.specs.Listed.{allowsDevice, allowsTest, testClosed, allowsPhase, allowsTables, allows};
+ghost use Rattle.state.specs.State.{sessionOf, madeOf, connected, selected, withPhase, withTest, withNext, withReceived, withOwn, withFlag, receivedFreed, ownFreed, emptied, deselected, gone, fresh, numbered};
 use slots::Linktest;
-use slots::Query;
 use slots::Slot;
 
 pub enum Phase {
@@ -164,6 +162,23 @@ pub fn with_flag(s: Session, m: u8, b: bool) -> Session
     t
 }
 
+// The slot at a place freed; as it is where there is no such slot.
+pub fn free_received(s: Session, at: usize) -> Session
+    ensures { λ r. ⌜ r ≡ receivedFreed s at ⌝ }
+{
+    let d = s.device;
+    let received = d.received;
+    with_received(s, slots::with_slot(received, at, slots::free_slot()))
+}
+
+pub fn free_own(s: Session, at: usize) -> Session
+    ensures { λ r. ⌜ r ≡ ownFreed s at ⌝ }
+{
+    let d = s.device;
+    let own = d.own;
+    with_own(s, slots::with_slot(own, at, slots::free_slot()))
+}
+
 // The data slots emptied.
 fn empty_slots(s: Session) -> Session
     ensures { λ r. ⌜ r ≡ emptied s ⌝ }
@@ -196,97 +211,12 @@ pub fn fresh_number(s: Session) -> u32
     let own = d.own;
     let link = s.link;
     let test = link.linktest;
-    slots::fresh_number(own, test, link.next)
+    fresh::fresh_number(own, test, link.next)
 }
 
 // A fresh number is taken: the next own number is one more.
 pub fn numbered_by(s: Session, n: u32) -> Session
     ensures { λ r. ⌜ r ≡ numbered s n ⌝ }
 {
-    with_next(s, slots::one_more(n))
-}
-
-// ---- the list behind 14
-
-fn allows_device(s: Session) -> bool
-    ensures { λ r. ⌜ r ≡ allowsDevice s ⌝ }
-{
-    let d = s.device;
-    let flags = d.flags;
-    if 32767 < d.id {
-        return false;
-    }
-    if flags[0] { false } else { true }
-}
-
-fn allows_test(s: Session) -> bool
-    ensures { λ r. ⌜ r ≡ allowsTest s ⌝ }
-{
-    let link = s.link;
-    let test = link.linktest;
-    let d = s.device;
-    let own = d.own;
-    if test.running {
-        if slots::find(own, Query::Named(test.system)) < 32 {
-            return false;
-        }
-        return true;
-    }
-    test.system == 0
-}
-
-// Connected, or no linktest runs.
-fn closed_when_gone(s: Session) -> bool
-    ensures { λ r. ⌜ r ≡ testClosed s ⌝ }
-{
-    if is_connected(s) {
-        return true;
-    }
-    let link = s.link;
-    let test = link.linktest;
-    if test.running { false } else { true }
-}
-
-fn allows_phase(s: Session) -> bool
-    ensures { λ r. ⌜ r ≡ allowsPhase s ⌝ }
-{
-    if is_selected(s) {
-        return true;
-    }
-    let d = s.device;
-    let received = d.received;
-    let own = d.own;
-    if slots::find(received, Query::Taken) < 32 {
-        return false;
-    }
-    if slots::find(own, Query::Taken) < 32 {
-        return false;
-    }
-    closed_when_gone(s)
-}
-
-fn allows_tables(s: Session) -> bool
-    ensures { λ r. ⌜ r ≡ allowsTables s ⌝ }
-{
-    let d = s.device;
-    let received = d.received;
-    let own = d.own;
-    if slots::allows_slots(received) {
-        return slots::allows_slots(own);
-    }
-    false
-}
-
-// The state does not break the list of docs/STATES.md.
-pub fn allows_state(s: Session) -> bool
-    ensures { λ r. ⌜ r ≡ allows s ⌝ }
-{
-    if allows_device(s) {
-        if allows_tables(s) {
-            if allows_test(s) {
-                return allows_phase(s);
-            }
-        }
-    }
-    false
+    with_next(s, fresh::one_more(n))
 }

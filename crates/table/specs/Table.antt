@@ -15,9 +15,9 @@ use Rattle.message.specs.declared.Received.{Received}
 use Rattle.message.specs.declared.Received.the-variants.{Reject, OtherPType, OtherSType, SelectReq, SelectRsp, DeselectReq, DeselectRsp, LinktestReq, LinktestRsp, SeparateReq, Data}
 use Rattle.message.specs.declared.Text.{Text}
 use Rattle.message.specs.declared.Text.the-variants.{Empty, About, Wished}
-use Rattle.state.specs.State.{connected, selected, withPhase, withTest, withReceived, withOwn, withFlag, deselected, gone, fresh, numbered}
+use Rattle.state.specs.State.{connected, selected, withPhase, withTest, withReceived, withOwn, withFlag, receivedFreed, ownFreed, deselected, gone, fresh, numbered}
 use Rattle.table.specs.Answer.{answer, told, sent}
-use Rattle.state.specs.Listed.{allows}
+use Rattle.listed.specs.Listed.{allows}
 use Rattle.table.specs.Pick.{pick}
 use Rattle.state.specs.declared.Phase.the-variants.{NotSelected, Selected}
 use Rattle.state.specs.declared.Session.{Session}
@@ -45,7 +45,7 @@ receivedAt s n = foundAt (Named n) (s .device .received)
 unfoldable pub rejectedOf : Session → Header → Stepped
 rejectedOf s h =
     pick (isThere (Named (h .system)) (s .device .own))
-    (told 34 (withOwn s (set (s .device .own) (ownAt s (h .system)) free)))
+    (told 34 (ownFreed s (ownAt s (h .system))))
     (pick (runs (s .link .linktest) (h .system)) (told 34 (withTest s noTest)) (told 35 s))
 
 -- ---- 2., 3. and others: a Reject with a reason
@@ -86,7 +86,7 @@ unfoldable pub secondaryOf : Session → Header → Stepped
 secondaryOf s h =
     pick (wOf h) (told 32 s)
     (pick (isThere (Answered (h .system) (streamOf h) (h .byte3)) (s .device .own))
-    (told 31 (withOwn s (set (s .device .own) (foundAt (Answered (h .system) (streamOf h) (h .byte3)) (s .device .own)) free)))
+    (told 31 (ownFreed s (foundAt (Answered (h .system) (streamOf h) (h .byte3)) (s .device .own))))
     (told 32 s))
 
 -- W with these system bytes already in a received slot, dropped, 33; with no free received slot, function 0 is sent; else delivered, 30, taking a slot
@@ -142,20 +142,20 @@ cameOf s r text = pick (connected s) (kindOf s r text) (told 20 s)
 unfoldable pub connectOf : Session → Stepped
 connectOf s = pick (connected s) (told 21 s) (told 0 (withPhase s NotSelected))
 
+-- not connected, slots and linktest emptied; this number where it is not connected
+abbrev pub closingOf : Session → ℕ → Stepped
+closingOf s number = pick (connected s) (told 0 (gone s)) (told number s)
+
 unfoldable pub disconnectOf : Session → Stepped
-disconnectOf s = pick (connected s) (told 0 (gone s)) (told 20 s)
+disconnectOf s = closingOf s 20
 
 -- set or clear a stream flag, any phase; stream 0 or above 127, 23
 unfoldable pub flagOf : Session → ℕ → Bool → Stepped
 flagOf s m b = pick (leb 1 m) (pick (leb m 127) (told 0 (withFlag s m b)) (told 23 s)) (told 23 s)
 
--- 20, 22; 0 where selected
-unfoldable pub phaseNumber : Session → ℕ
-phaseNumber s = pick (connected s) (pick (selected s) 0 22) 20
-
--- what is wished where the phase is selected
+-- what is wished where the phase is selected; not connected, 20; connected, not selected, 22
 abbrev pub whenSelected : Session → Stepped → Stepped
-whenSelected s r = pick (eqb (phaseNumber s) 0) r (told (phaseNumber s) s)
+whenSelected s r = pick (connected s) (pick (selected s) r (told 22 s)) (told 20 s)
 
 -- with a text that is good, else its number
 abbrev pub whenGood : Session → List ℕ → Stepped → Stepped
@@ -178,7 +178,7 @@ primaryWishOf s w m f = pick (isPrimary m f) (sendOf s w m f) (told 23 s)
 unfoldable pub repliedOf : Session → ℕ → ℕ → Text → Stepped
 repliedOf s n f text =
     pick (isThere (Named n) (s .device .received))
-    (answer 0 (withReceived s (set (s .device .received) (receivedAt s n) free))
+    (answer 0 (receivedFreed s (receivedAt s n))
     (sent s false (getD (s .device .received) (receivedAt s n) free .stream) f n text))
     (told 25 s)
 
@@ -216,7 +216,7 @@ wishOf s Separate text = whenSelected s (separateOf s)
 unfoldable pub t3Of : Session → ℕ → Stepped
 t3Of s n =
     pick (isThere (Named n) (s .device .own))
-    (answer 0 (withOwn (moved s) (set (s .device .own) (ownAt s n) free))
+    (answer 0 (ownFreed (moved s) (ownAt s n))
     (sent s false 9 9 (fresh s)
     (About (dataHeader (s .device .id) true (getD (s .device .own) (ownAt s n) free .stream) (getD (s .device .own) (ownAt s n) free .function) n))))
     (told 27 s)
@@ -226,10 +226,10 @@ unfoldable pub t6Of : Session → Stepped
 t6Of s = pick (s .link .linktest .running) (told 0 (gone s)) (told 27 s)
 
 unfoldable pub t7Of : Session → Stepped
-t7Of s = pick (connected s) (pick (selected s) (told 27 s) (told 0 (gone s))) (told 27 s)
+t7Of s = pick (selected s) (told 27 s) (closingOf s 27)
 
 unfoldable pub t8Of : Session → Stepped
-t8Of s = pick (connected s) (told 0 (gone s)) (told 27 s)
+t8Of s = closingOf s 27
 
 unfoldable pub timerOf : Session → Timer → Stepped
 timerOf s (T3 n) = t3Of s n

@@ -1,6 +1,6 @@
 ghost use mathlib.Core.Path.{_≡_};
 ghost use Rattle.table.specs.Answer.{answer, told, sent};
-ghost use Rattle.table.specs.Table.{rejecting};
+ghost use Rattle.table.specs.Table.{rejecting, closingOf, whenSelected, whenGood};
 use frame::Header;
 use message::Received;
 use message::Send;
@@ -67,4 +67,38 @@ pub fn reject(s: Session, h: Header, reason: u8) -> Stepped
     ensures { λ r. ⌜ r ≡ rejecting s h reason ⌝ }
 {
     answer_of(0, s, message::reject_of(h, reason))
+}
+
+// Not connected, slots and linktest emptied; this number where it is not connected.
+pub fn closing(s: Session, number: u32) -> Stepped
+    ensures { λ r. ⌜ r ≡ closingOf s number ⌝ }
+{
+    if state::is_connected(s) {
+        return told_of(0, state::close(s));
+    }
+    told_of(number, s)
+}
+
+// What is wished where the phase is selected.
+pub fn when_selected(s: Session, wished: Stepped) -> Stepped
+    ensures { λ r. ⌜ r ≡ whenSelected s wished ⌝ }
+{
+    if state::is_connected(s) {
+        if state::is_selected(s) {
+            return wished;
+        }
+        return told_of(22, s);
+    }
+    told_of(20, s)
+}
+
+// What is wished with a text that is good.
+pub fn when_good(s: Session, text: &[u8], wished: Stepped) -> Stepped
+    ensures { λ r. ⌜ r ≡ whenGood s (now (text .entry)) wished ⌝ }
+{
+    let number = text::judge(text);
+    if number != 0 {
+        return told_of(number, s);
+    }
+    wished
 }

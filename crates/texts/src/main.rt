@@ -104,17 +104,6 @@ fn part(b: &[u8]) {
     put(b"\n");
 }
 
-// The numbers (4 each) behind room (2) and count (1).
-fn numbers_in(b: &[u8]) -> [u32; 255] {
-    let mut table = [0u32; 255];
-    let mut i: usize = 0;
-    while i < 255 {
-        table[i] = records::word_at(b, 3 + 4 * i);
-        i += 1;
-    }
-    table
-}
-
 fn write_line(table: &[u32], content: &[u8], out: &mut [u8]) {
     put(b"written");
     answer(writer::write(table, content, out));
@@ -122,9 +111,9 @@ fn write_line(table: &[u32], content: &[u8], out: &mut [u8]) {
     put(b"\n");
 }
 
-fn write_rows(b: &[u8], count: usize, content: &[u8]) {
-    let room = records::half_at(b, 0) as usize;
-    let table = numbers_in(b);
+fn write_rows(room: usize, numbers: &[u8], count: usize, content: &[u8]) {
+    let mut table = [0u32; 255];
+    records::words_in(numbers, &mut table);
     let mut out = records::blank();
     if count <= table.len() {
         if room <= out.len() {
@@ -141,7 +130,7 @@ fn write(b: &[u8]) {
         bad();
         return;
     }
-    write_rows(b, count, &b[from..]);
+    write_rows(records::half_at(b, 0) as usize, &b[3..from], count, &b[from..]);
 }
 
 fn lean_line(t: &[u8], table: &mut [u32], out: &mut [u8]) {

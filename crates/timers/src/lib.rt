@@ -16,10 +16,7 @@ fn t3(s: Session, n: u32) -> Stepped
         let x = own[at];
         let k = state::fresh_number(s);
         let h = frame::data_header(d.id, true, x.stream, x.function, n);
-        let t = state::with_own(
-            state::numbered_by(s, k),
-            slots::with_slot(own, at, slots::free_slot()),
-        );
+        let t = state::free_own(state::numbered_by(s, k), at);
         return table::answer_of(0, t, table::sent_of(s, false, 9, 9, k, Text::About(h)));
     }
     table::told_of(27, s)
@@ -39,22 +36,16 @@ fn t6(s: Session) -> Stepped
 fn t7(s: Session) -> Stepped
     ensures { λ r. ⌜ r ≡ t7Of s ⌝ }
 {
-    if state::is_connected(s) {
-        if state::is_selected(s) {
-            return table::told_of(27, s);
-        }
-        return table::told_of(0, state::close(s));
+    if state::is_selected(s) {
+        return table::told_of(27, s);
     }
-    table::told_of(27, s)
+    table::closing(s, 27)
 }
 
 fn t8(s: Session) -> Stepped
     ensures { λ r. ⌜ r ≡ t8Of s ⌝ }
 {
-    if state::is_connected(s) {
-        return table::told_of(0, state::close(s));
-    }
-    table::told_of(27, s)
+    table::closing(s, 27)
 }
 
 pub fn timed(s: Session, t: Timer) -> Stepped

@@ -3,7 +3,6 @@ use mathlib.Core.Path.{_≡_, sym, _∙_}
 use Rattle.wishes.proofs.connect.Reads as connect-reads
 use Rattle.wishes.proofs.disconnect.Reads as disconnect-reads
 use Rattle.wishes.proofs.flag.Reads as flag-reads
-use Rattle.wishes.proofs.phase_number.Reads as phase-number-reads
 use Rattle.wishes.proofs.linktest.Reads as linktest-reads
 use Rattle.wishes.proofs.wished_separate.Reads as wished-separate-reads
 
@@ -15,9 +14,6 @@ disconnect-one κs a r r′ s s′ p q = p ∙ sym q
 
 flag-one : (κs : _) (a : _) (r r′ : _) (s s′ : _) → flag-reads.Post κs a r s → flag-reads.Post κs a r′ s′ → r ≡ r′
 flag-one κs a r r′ s s′ p q = p ∙ sym q
-
-phase-number-one : (κs : _) (a : _) (r r′ : _) (s s′ : _) → phase-number-reads.Post κs a r s → phase-number-reads.Post κs a r′ s′ → r ≡ r′
-phase-number-one κs a r r′ s s′ p q = p ∙ sym q
 
 linktest-one : (κs : _) (a : _) (r r′ : _) (s s′ : _) → linktest-reads.Post κs a r s → linktest-reads.Post κs a r′ s′ → r ≡ r′
 linktest-one κs a r r′ s s′ p q = p ∙ sym q

@@ -1,5 +1,5 @@
 ghost use mathlib.Core.Path.{_≡_};
-ghost use Rattle.table.specs.Table.{connectOf, disconnectOf, flagOf, phaseNumber, whenSelected, linktestOf, separateOf};
+ghost use Rattle.table.specs.Table.{connectOf, disconnectOf, flagOf, whenSelected, linktestOf, separateOf};
 use state::Phase;
 use state::Session;
 use table::Stepped;
@@ -16,10 +16,7 @@ pub fn connect(s: Session) -> Stepped
 pub fn disconnect(s: Session) -> Stepped
     ensures { λ r. ⌜ r ≡ disconnectOf s ⌝ }
 {
-    if state::is_connected(s) {
-        return table::told_of(0, state::close(s));
-    }
-    table::told_of(20, s)
+    table::closing(s, 20)
 }
 
 pub fn flag(s: Session, m: u8, b: bool) -> Stepped
@@ -32,15 +29,6 @@ pub fn flag(s: Session, m: u8, b: bool) -> Stepped
         return table::told_of(23, s);
     }
     table::told_of(0, state::with_flag(s, m, b))
-}
-
-pub fn phase_number(s: Session) -> u32
-    ensures { λ r. ⌜ r ≡ phaseNumber s ⌝ }
-{
-    if state::is_connected(s) {
-        return if state::is_selected(s) { 0 } else { 22 };
-    }
-    20
 }
 
 pub fn linktest(s: Session) -> Stepped
@@ -73,9 +61,5 @@ fn separate(s: Session) -> Stepped
 pub fn wished_separate(s: Session) -> Stepped
     ensures { λ r. ⌜ r ≡ whenSelected s (separateOf s) ⌝ }
 {
-    let p = phase_number(s);
-    if p != 0 {
-        return table::told_of(p, s);
-    }
-    separate(s)
+    table::when_selected(s, separate(s))
 }

@@ -3,9 +3,7 @@ use native.Mathlib.Omega.{arith}
 use borrow.Author.Needs.{needs}
 use Prim.Native.Nat.{ℕ}
 use mathlib.Core.Path.{ap}
-use lib.ListN.{set}
-use Rattle.slots.specs.Slots.{free}
-use Rattle.state.specs.State.{withOwn}
+use Rattle.state.specs.State.{ownFreed}
 use Rattle.table.specs.Answer.{told}
 use Rattle.table.proofs.Cases.{first, second, told-so, there, absent}
 use Rattle.table.specs.Table.{rejectedOf}
@@ -15,14 +13,8 @@ use Rattle.control.proofs.rejected.Tie as tie
 find-requires : tie.Need-find-requires
 find-requires c κs = search needs
 
-free-slot-requires : tie.Need-free-slot-requires
-free-slot-requires c κs = search needs
-
-with-slot-requires : tie.Need-with-slot-requires
-with-slot-requires c κs = search needs
-
-with-own-requires : tie.Need-with-own-requires
-with-own-requires c κs = search needs
+free-own-requires : tie.Need-free-own-requires
+free-own-requires c κs = search needs
 
 told-of-requires : tie.Need-told-of-requires
 told-of-requires c κs = search needs
@@ -30,11 +22,10 @@ told-of-requires c κs = search needs
 returns : tie.Need-returns
 unfolding rejectedOf
 returns c =
-    let s = c .before .before .before .before .before .before .before .before .args .s in
-    let e = c .before .before .before .before .before .find .ensures in
+    let s = c .before .before .before .before .before .before .args .s in
+    let e = c .before .before .before .find .ensures in
     first _ _ _ (there _ _ _ e (omega arith))
-    (rw (c .told-of .ensures, c .before .with-own .ensures, c .before .before .with-slot .ensures, c .before .before .before .free-slot .ensures)
-    (ap (λ (i : ℕ). told 34 (withOwn s (set (s .device .own) i free))) e))
+    (rw (c .told-of .ensures, c .before .free-own .ensures) (ap (λ (i : ℕ). told 34 (ownFreed s i)) e))
 
 is-running-requires : tie.Need-is-running-requires
 is-running-requires c κs = search needs
@@ -70,9 +61,7 @@ rejected-spec =
     tie.close
     (tie.spec
     find-requires
-    free-slot-requires
-    with-slot-requires
-    with-own-requires
+    free-own-requires
     told-of-requires
     returns
     is-running-requires

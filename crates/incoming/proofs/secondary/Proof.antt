@@ -4,9 +4,7 @@ use native.Mathlib.Omega.{arith}
 use borrow.Author.Needs.{needs}
 use Prim.Native.Nat.{ℕ}
 use mathlib.Core.Path.{ap}
-use lib.ListN.{set}
-use Rattle.slots.specs.Slots.{free}
-use Rattle.state.specs.State.{withOwn}
+use Rattle.state.specs.State.{ownFreed}
 use Rattle.table.specs.Answer.{told}
 use Rattle.table.proofs.Cases.{first, second, told-so, there, absent}
 use Rattle.table.specs.Table.{secondaryOf}
@@ -31,14 +29,8 @@ stream-of-requires c κs = search needs
 find-requires : tie.Need-find-requires
 find-requires c κs = search needs
 
-free-slot-requires : tie.Need-free-slot-requires
-free-slot-requires c κs = search needs
-
-with-slot-requires : tie.Need-with-slot-requires
-with-slot-requires c κs = search needs
-
-with-own-requires : tie.Need-with-own-requires
-with-own-requires c κs = search needs
+free-own-requires : tie.Need-free-own-requires
+free-own-requires c κs = search needs
 
 told-of-requires-2 : tie.Need-told-of-requires-2
 told-of-requires-2 c κs = search needs
@@ -46,12 +38,11 @@ told-of-requires-2 c κs = search needs
 returns-2 : tie.Need-returns-2
 unfolding secondaryOf
 returns-2 c =
-    let s = c .before .before .before .before .before .before .before .before .before .before .before .args .s in
-    let e = answered-known (s .device .own) (c .before .before .before .before .before .before .before .before .before .before .before .args .h) (c .before .before .before .before .before .before .stream-of .ensures) (c .before .before .before .before .before .find .ensures) in
-    second _ _ _ (told-so (c .before .before .before .before .before .before .before .before .before .before .wants-reply .ensures) (c .before .before .before .before .before .before .before .before .before .if1 .left))
+    let s = c .before .before .before .before .before .before .before .before .before .args .s in
+    let e = answered-known (s .device .own) (c .before .before .before .before .before .before .before .before .before .args .h) (c .before .before .before .before .stream-of .ensures) (c .before .before .before .find .ensures) in
+    second _ _ _ (told-so (c .before .before .before .before .before .before .before .before .wants-reply .ensures) (c .before .before .before .before .before .before .before .if1 .left))
     (first _ _ _ (there _ _ _ e (omega arith))
-    (rw (c .told-of2 .ensures, c .before .with-own .ensures, c .before .before .with-slot .ensures, c .before .before .before .free-slot .ensures)
-    (ap (λ (i : ℕ). told 31 (withOwn s (set (s .device .own) i free))) e)))
+    (rw (c .told-of2 .ensures, c .before .free-own .ensures) (ap (λ (i : ℕ). told 31 (ownFreed s i)) e)))
 
 told-of-requires-3 : tie.Need-told-of-requires-3
 told-of-requires-3 c κs = search needs
@@ -72,9 +63,7 @@ secondary-spec =
     returns
     stream-of-requires
     find-requires
-    free-slot-requires
-    with-slot-requires
-    with-own-requires
+    free-own-requires
     told-of-requires-2
     returns-2
     told-of-requires-3

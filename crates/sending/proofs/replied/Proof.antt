@@ -15,14 +15,8 @@ mul-x c = search needs
 array-copy-out-x : tie.Need-array-copy-out-x
 array-copy-out-x c = search needs
 
-free-slot-requires : tie.Need-free-slot-requires
-free-slot-requires c κs = search needs
-
-with-slot-requires : tie.Need-with-slot-requires
-with-slot-requires c κs = search needs
-
-with-received-requires : tie.Need-with-received-requires
-with-received-requires c κs = search needs
+free-received-requires : tie.Need-free-received-requires
+free-received-requires c κs = search needs
 
 sent-of-requires : tie.Need-sent-of-requires
 sent-of-requires c κs = search needs
@@ -33,8 +27,8 @@ answer-of-requires c κs = search needs
 returns : tie.Need-returns
 unfolding repliedOf
 returns c =
-    first _ _ _ (there _ _ _ (c .before .before .before .before .before .before .before .find .ensures) (omega arith))
-    (rw (c .answer-of .ensures, c .before .sent-of .ensures, c .before .before .with-received .ensures, c .before .before .before .with-slot .ensures, c .before .before .before .before .free-slot .ensures, c .before .before .before .before .before .before .before .find .ensures))
+    first _ _ _ (there _ _ _ (c .before .before .before .before .before .find .ensures) (omega arith))
+    (rw (c .answer-of .ensures, c .before .sent-of .ensures, c .before .before .free-received .ensures, c .before .before .before .before .before .find .ensures))
 
 told-of-requires : tie.Need-told-of-requires
 told-of-requires c κs = search needs
@@ -52,9 +46,7 @@ replied-spec =
     find-requires
     mul-x
     array-copy-out-x
-    free-slot-requires
-    with-slot-requires
-    with-received-requires
+    free-received-requires
     sent-of-requires
     answer-of-requires
     returns

@@ -1,5 +1,5 @@
 -- The definition asks the same tests, and each answer is built by calls that promise its parts.
-use Rattle.slots.proofs.Allowed.{function-small}
+use Rattle.listed.proofs.Allowed.{function-small}
 use native.Mathlib.Omega.{arith}
 use borrow.Author.Needs.{needs}
 use Rattle.table.proofs.Cases.{second, absent}

@@ -1,5 +1,5 @@
 -- The definition asks the same test, and a state that the list allows has a received table that it allows.
-use Rattle.state.proofs.Listed.{listed}
+use Rattle.listed.proofs.Listed.{listed}
 use borrow.Author.Needs.{needs}
 use Rattle.table.proofs.Cases.{first, second, told-so}
 use Rattle.table.specs.Table.{stepOf}

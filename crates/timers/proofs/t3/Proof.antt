@@ -24,14 +24,8 @@ data-header-requires c κs = search needs
 numbered-by-requires : tie.Need-numbered-by-requires
 numbered-by-requires c κs = search needs
 
-free-slot-requires : tie.Need-free-slot-requires
-free-slot-requires c κs = search needs
-
-with-slot-requires : tie.Need-with-slot-requires
-with-slot-requires c κs = search needs
-
-with-own-requires : tie.Need-with-own-requires
-with-own-requires c κs = search needs
+free-own-requires : tie.Need-free-own-requires
+free-own-requires c κs = search needs
 
 sent-of-requires : tie.Need-sent-of-requires
 sent-of-requires c κs = search needs
@@ -42,8 +36,8 @@ answer-of-requires c κs = search needs
 returns : tie.Need-returns
 unfolding t3Of
 returns c =
-    first _ _ _ (there _ _ _ (c .before .before .before .before .before .before .before .before .before .before .find .ensures) (omega arith))
-    (rw (c .answer-of .ensures, c .before .sent-of .ensures, c .before .before .with-own .ensures, c .before .before .before .with-slot .ensures, c .before .before .before .before .free-slot .ensures, c .before .before .before .before .before .numbered-by .ensures, c .before .before .before .before .before .before .data-header .ensures, c .before .before .before .before .before .before .before .fresh-number .ensures, c .before .before .before .before .before .before .before .before .before .before .find .ensures))
+    first _ _ _ (there _ _ _ (c .before .before .before .before .before .before .before .before .find .ensures) (omega arith))
+    (rw (c .answer-of .ensures, c .before .sent-of .ensures, c .before .before .free-own .ensures, c .before .before .before .numbered-by .ensures, c .before .before .before .before .data-header .ensures, c .before .before .before .before .before .fresh-number .ensures, c .before .before .before .before .before .before .before .before .find .ensures))
 
 told-of-requires : tie.Need-told-of-requires
 told-of-requires c κs = search needs
@@ -64,9 +58,7 @@ t3-spec =
     fresh-number-requires
     data-header-requires
     numbered-by-requires
-    free-slot-requires
-    with-slot-requires
-    with-own-requires
+    free-own-requires
     sent-of-requires
     answer-of-requires
     returns

@@ -1,41 +1,15 @@
--- The definition asks the same tests, and each answer is built by calls that promise its parts.
+-- It closes, with its number.
 use borrow.Author.Needs.{needs}
-use Rattle.table.proofs.Cases.{first, second, told-so}
 use Rattle.table.specs.Table.{disconnectOf}
 use Rattle.wishes.proofs.disconnect.Statement.{statement}
 use Rattle.wishes.proofs.disconnect.Tie as tie
 
-is-connected-requires : tie.Need-is-connected-requires
-is-connected-requires c κs = search needs
-
-close-requires : tie.Need-close-requires
-close-requires c κs = search needs
-
-told-of-requires : tie.Need-told-of-requires
-told-of-requires c κs = search needs
+closing-requires : tie.Need-closing-requires
+closing-requires c κs = search needs
 
 returns : tie.Need-returns
 unfolding disconnectOf
-returns c =
-    first _ _ _ (told-so (c .before .before .before .is-connected .ensures) (c .before .before .if1 .taken))
-    (rw (c .told-of .ensures, c .before .close .ensures))
-
-told-of-requires-2 : tie.Need-told-of-requires-2
-told-of-requires-2 c κs = search needs
-
-returns-2 : tie.Need-returns-2
-unfolding disconnectOf
-returns-2 c =
-    second _ _ _ (told-so (c .before .before .is-connected .ensures) (c .before .if1 .left))
-    (rw (c .told-of2 .ensures))
+returns c = rw (c .closing .ensures)
 
 pub disconnect-spec : {M : Type 1} → statement M
-disconnect-spec =
-    tie.close
-    (tie.spec
-    is-connected-requires
-    close-requires
-    told-of-requires
-    returns
-    told-of-requires-2
-    returns-2)
+disconnect-spec = tie.close (tie.spec closing-requires returns)

@@ -1,0 +1,3 @@
+pub mod Pigeon
+pub mod Fresh
+pub mod Determined

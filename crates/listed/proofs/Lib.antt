@@ -1,0 +1,4 @@
+pub mod Allowed
+pub mod Listed
+pub mod Made
+pub mod Determined
