@@ -1,9 +1,9 @@
 use bytes::scan;
 use element::Element;
 use element::Got;
+use hex::Said;
 use libc::STDIN_FILENO;
 use libc::STDOUT_FILENO;
-use records::Said;
 use wire::Bits;
 use wire::Counted;
 use wire::Width;
@@ -22,7 +22,7 @@ fn decimal(n: usize) {
 fn digits(s: &[u8]) {
     let mut out = records::room();
     put(b"\t");
-    match records::hex_of(s, &mut out) {
+    match hex::hex_of(s, &mut out) {
         Counted::Is(n) => if n <= out.len() {
             put(&out[0..n]);
         },
@@ -152,7 +152,7 @@ fn line(l: &[u8]) {
         return;
     }
     let mut said = records::room();
-    match records::bytes_in(&l[1..], &mut said) {
+    match hex::bytes_in(&l[1..], &mut said) {
         Said::Bytes(n) => if n <= said.len() {
             record(letter, &mut said[0..n]);
         },

@@ -1,10 +1,10 @@
 use bytes::scan;
+use hex::Said;
 use libc::STDIN_FILENO;
 use libc::STDOUT_FILENO;
 use reader::Answer;
 use reader::Phase;
 use reader::Reader;
-use records::Said;
 
 // ---- fields out
 
@@ -122,7 +122,7 @@ fn line(r: Reader, s: &[u8]) -> Reader {
         return r;
     }
     let mut said = records::room();
-    match records::bytes_in(&s[1..], &mut said) {
+    match hex::bytes_in(&s[1..], &mut said) {
         Said::Bytes(n) => if n <= said.len() {
             record(r, letter, &said[0..n])
         } else {

@@ -3,10 +3,10 @@ use bytes::scan;
 use frame::Header;
 use frames::Event;
 use frames::FrameReader;
+use hex::Said;
 use libc::STDIN_FILENO;
 use libc::STDOUT_FILENO;
 use outbox::Dropped;
-use records::Said;
 use wire::Counted;
 
 // ---- fields out
@@ -23,7 +23,7 @@ fn decimal(n: usize) {
 fn digits(s: &[u8]) {
     let mut out = records::room();
     put(b"\t");
-    match records::hex_of(s, &mut out) {
+    match hex::hex_of(s, &mut out) {
         Counted::Is(n) => if n <= out.len() {
             put(&out[0..n]);
         },
@@ -388,7 +388,7 @@ fn line(k: Kept, l: &[u8]) -> Kept {
         return k;
     }
     let mut said = records::room();
-    match records::bytes_in(&l[1..], &mut said) {
+    match hex::bytes_in(&l[1..], &mut said) {
         Said::Bytes(n) => if n <= said.len() {
             record(k, letter, &said[0..n])
         } else {

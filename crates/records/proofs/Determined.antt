@@ -1,12 +1,6 @@
 -- Two outcomes that a promise permits for the same call are equal: each is the one that the definition gives.
-use mathlib.Core.Path.{_≡_, sym, ap, _∙_}
+use mathlib.Core.Path.{_≡_, sym, _∙_}
 use denote.Ref.{now}
-use Rattle.wire.specs.declared.Counted.{Counted}
-use Rattle.wire.specs.Lent.{outAfter}
-use Rattle.records.specs.declared.Said.{Said}
-use Rattle.records.specs.Hex.{bytesIn, saidAfter, hexOf}
-use Rattle.records.proofs.bytes_in.Reads as bytes-in-reads
-use Rattle.records.proofs.hex_of.Reads as hex-of-reads
 use Rattle.records.proofs.byte_at.Reads as byte-at-reads
 use Rattle.records.proofs.half_at.Reads as half-at-reads
 use Rattle.records.proofs.word_at.Reads as word-at-reads
@@ -14,20 +8,6 @@ use Rattle.records.proofs.double_at.Reads as double-at-reads
 use Rattle.records.proofs.words_in.Reads as words-in-reads
 use Rattle.records.proofs.room.Reads as room-reads
 use Rattle.records.proofs.blank.Reads as blank-reads
-
-bytes-in-one :
-    (κs : _) (a : _) (r r′ : _) (s s′ : _) → bytes-in-reads.Post κs a r s → bytes-in-reads.Post κs a r′ s′
-    → (r ≡ r′) × (now (s .1 .0) ≡ now (s′ .1 .0))
-bytes-in-one κs a r r′ s s′ p q =
-    let e : r ≡ r′ = p .0 ∙ sym (q .0) in
-    (e, p .1 ∙ ap (λ (x : Said). saidAfter x (bytesIn (now (a .0))) (now (a .1 .0))) e ∙ sym (q .1))
-
-hex-of-one :
-    (κs : _) (a : _) (r r′ : _) (s s′ : _) → hex-of-reads.Post κs a r s → hex-of-reads.Post κs a r′ s′
-    → (r ≡ r′) × (now (s .1 .0) ≡ now (s′ .1 .0))
-hex-of-one κs a r r′ s s′ p q =
-    let e : r ≡ r′ = p .0 ∙ sym (q .0) in
-    (e, p .1 ∙ ap (λ (x : Counted). outAfter x (hexOf (now (a .0))) (now (a .1 .0))) e ∙ sym (q .1))
 
 byte-at-one : (κs : _) (a : _) (r r′ : _) (s s′ : _) → byte-at-reads.Post κs a r s → byte-at-reads.Post κs a r′ s′ → r ≡ r′
 byte-at-one κs a r r′ s s′ p q = p ∙ sym q

@@ -1,5 +1,3 @@
-pub mod Laws
 pub mod Fields
 pub mod Words
-pub mod Back
 pub mod Determined

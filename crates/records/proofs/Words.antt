@@ -1,9 +1,9 @@
 -- Numbers of four bytes, one at a time: while four bytes are left the next is the field there, and where fewer are left there is none.
 use Prim.Native.Nat.{ℕ, suc, _+_, _-_, _<_, _≤_}
-use mathlib.Core.Path.{_≡_, refl, sym, ap, _∙_}
+use mathlib.Core.Path.{_≡_, refl, ap, _∙_}
 use mathlib.Core.List.{List, [], _∷_}
 use native.Mathlib.Omega.{arith}
-use lib.ListN.{length, take, drop, set, length-drop}
+use lib.ListN.{length, take, drop, length-drop}
 use lib.Seq.{sets, set-out, drop-drop}
 use Rattle.wire.specs.Number.{numberOf}
 use Rattle.records.specs.Fields.{fieldOf, wordsIn}

@@ -1,9 +1,9 @@
 use bytes::scan;
 use frame::Header;
+use hex::Said;
 use libc::STDIN_FILENO;
 use libc::STDOUT_FILENO;
 use message::Send;
-use records::Said;
 use slots::Slot;
 use state::Phase;
 use state::Session;
@@ -26,7 +26,7 @@ fn decimal(n: usize) {
 fn digits(s: &[u8]) {
     let mut out = records::room();
     put(b"\t");
-    match records::hex_of(s, &mut out) {
+    match hex::hex_of(s, &mut out) {
         Counted::Is(n) => if n <= out.len() {
             put(&out[0..n]);
         },
@@ -237,7 +237,7 @@ fn line(s: Session, l: &[u8]) -> Session {
         return s;
     }
     let mut said = records::room();
-    match records::bytes_in(&l[1..], &mut said) {
+    match hex::bytes_in(&l[1..], &mut said) {
         Said::Bytes(n) => if n <= said.len() {
             record(s, letter, &said[0..n])
         } else {

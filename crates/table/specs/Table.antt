@@ -2,12 +2,11 @@
 use Prim.Native.Nat.{ℕ, _+_, _%_}
 use mathlib.Core.Bool.{Bool, true, false}
 use mathlib.Core.List.{List}
-use lib.Dec.{eqb, leb, ltb}
+use lib.Dec.{eqb, leb}
 use lib.ListN.{getD, set}
 use Rattle.frame.specs.Header.{wOf, streamOf, dataHeader}
 use Rattle.frame.specs.declared.Header.{Header}
 use Rattle.slots.specs.Slots.{free, slotOf, noTest, testOf, foundAt, isThere, runs, isPrimary}
-use Rattle.slots.specs.declared.Slot.{Slot}
 use Rattle.slots.specs.declared.Query.the-variants.{Free, Named, Answered}
 use Rattle.text.specs.Text.{judgedOf}
 use Rattle.message.specs.Message.{control, response, reject}

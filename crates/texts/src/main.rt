@@ -1,7 +1,7 @@
 use bytes::scan;
+use hex::Said;
 use libc::STDIN_FILENO;
 use libc::STDOUT_FILENO;
-use records::Said;
 use rows::Row;
 use text::Measured;
 use wire::Counted;
@@ -20,7 +20,7 @@ fn decimal(n: usize) {
 fn digits(s: &[u8]) {
     let mut out = records::room();
     put(b"\t");
-    match records::hex_of(s, &mut out) {
+    match hex::hex_of(s, &mut out) {
         Counted::Is(n) => if n <= out.len() {
             put(&out[0..n]);
         },
@@ -130,7 +130,12 @@ fn write(b: &[u8]) {
         bad();
         return;
     }
-    write_rows(records::half_at(b, 0) as usize, &b[3..from], count, &b[from..]);
+    write_rows(
+        records::half_at(b, 0) as usize,
+        &b[3..from],
+        count,
+        &b[from..],
+    );
 }
 
 fn lean_line(t: &[u8], table: &mut [u32], out: &mut [u8]) {
@@ -181,7 +186,7 @@ fn line(l: &[u8]) {
         return;
     }
     let mut said = records::room();
-    match records::bytes_in(&l[1..], &mut said) {
+    match hex::bytes_in(&l[1..], &mut said) {
         Said::Bytes(n) => if n <= said.len() {
             record(letter, &said[0..n]);
         },

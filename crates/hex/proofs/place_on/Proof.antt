@@ -1,9 +1,9 @@
 -- The tests are the definition's, and of what is no space the digit decides.
 use borrow.Author.Needs.{needs}
 use borrow.Author.Tests.{eq-eqb, ne-eqb}
-use Rattle.records.specs.Hex.{placeOn}
-use Rattle.records.proofs.place_on.Statement.{statement}
-use Rattle.records.proofs.place_on.Tie as tie
+use Rattle.hex.specs.Hex.{placeOn}
+use Rattle.hex.proofs.place_on.Statement.{statement}
+use Rattle.hex.proofs.place_on.Tie as tie
 
 returns : tie.Need-returns
 unfolding placeOn

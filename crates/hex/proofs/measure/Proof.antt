@@ -8,11 +8,11 @@ use native.Mathlib.Nat.{add-zero}
 use native.Mathlib.Omega.{arith}
 use borrow.Author.Tests.{eq-eqb, ne-eqb}
 use lib.ListN.{length, drop, drop-of-length-le}
-use Rattle.records.specs.Hex.{placeAfter, bytesFrom, between, isHex, bytesIn}
-use Rattle.records.specs.declared.Said.the-variants.{Bytes, Wrong}
-use Rattle.records.proofs.Laws.{place-turn, size-turn}
-use Rattle.records.proofs.measure.Statement.{statement}
-use Rattle.records.proofs.measure.Tie as tie
+use Rattle.hex.specs.Hex.{placeAfter, bytesFrom, between, isHex, bytesIn}
+use Rattle.hex.specs.declared.Said.the-variants.{Bytes, Wrong}
+use Rattle.hex.proofs.Laws.{place-turn, size-turn}
+use Rattle.hex.proofs.measure.Statement.{statement}
+use Rattle.hex.proofs.measure.Tie as tie
 
 abbrev Inv-loop : tie.InvT-loop
 Inv-loop s place₀ n₀ i₀ place n i =

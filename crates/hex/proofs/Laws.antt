@@ -11,7 +11,7 @@ use lib.Dec.{eqb, ltb, leb}
 use lib.ListN.{length, drop, getD, set, length-set}
 use lib.Seq.{sets, drop-cons}
 use Rattle.wire.proofs.Choice.{both}
-use Rattle.records.specs.Hex.{within, digitOf, placeOn, placeAfter, bytesFrom, hexOf}
+use Rattle.hex.specs.Hex.{within, digitOf, placeOn, placeAfter, bytesFrom, hexOf}
 
 pub by-cond : (P : ℕ → Type 0) (b : Bool) (x y : ℕ) → (b ≡ true → P x) → (b ≡ false → P y) → P (cond b x y)
 by-cond P true x y f g = f refl

@@ -1,7 +1,7 @@
 -- The tests are the definition's.
 use borrow.Author.Tests.{eq-eqb, ne-eqb, lt-ltb, le-ltb}
-use Rattle.records.proofs.digit_on.Statement.{statement}
-use Rattle.records.proofs.digit_on.Tie as tie
+use Rattle.hex.proofs.digit_on.Statement.{statement}
+use Rattle.hex.proofs.digit_on.Tie as tie
 
 returns : tie.Need-returns
 returns c = rw (eq-eqb _ _ (c .if1 .taken))

@@ -6,8 +6,8 @@ use lib.Dec.{eqb, ltb, leb}
 use lib.ListN.{length, drop}
 use Rattle.wire.specs.declared.Counted.{Counted}
 use Rattle.wire.specs.declared.Counted.the-variants as C
-use Rattle.records.specs.declared.Said.{Said}
-use Rattle.records.specs.declared.Said.the-variants.{Bytes, Wrong, Long}
+use Rattle.hex.specs.declared.Said.{Said}
+use Rattle.hex.specs.declared.Said.the-variants.{Bytes, Wrong, Long}
 
 abbrev pub within : ℕ → ℕ → ℕ → Bool
 within low high c = cond (leb low c) (leb c high) false

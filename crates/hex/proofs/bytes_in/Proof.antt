@@ -8,10 +8,10 @@ use native.Mathlib.Omega.{arith}
 use borrow.Author.Tests.{lt-ltb, le-ltb}
 use lib.ListN.{length}
 use Rattle.wire.proofs.Stores.{part-sets}
-use Rattle.records.specs.Hex.{isHex, bytesIn, saidOf}
-use Rattle.records.specs.declared.Said.the-variants.{Bytes, Wrong, Long}
-use Rattle.records.proofs.bytes_in.Statement.{statement}
-use Rattle.records.proofs.bytes_in.Tie as tie
+use Rattle.hex.specs.Hex.{isHex, bytesIn, saidOf}
+use Rattle.hex.specs.declared.Said.the-variants.{Bytes, Wrong, Long}
+use Rattle.hex.proofs.bytes_in.Statement.{statement}
+use Rattle.hex.proofs.bytes_in.Tie as tie
 
 -- what was measured
 bytes-told : (b : Bool) (n m : ℕ) → Bytes n ≡ cond b (Bytes m) Wrong → (b ≡ true) × (n ≡ m)

@@ -2,9 +2,9 @@
 use borrow.Author.Needs.{needs}
 use mathlib.Core.Path.{sym}
 use native.Mathlib.Omega.{arith}
-use Rattle.records.proofs.Laws.{below, above, digit-decimal, digit-upper, digit-lower, digit-none}
-use Rattle.records.proofs.digit.Statement.{statement}
-use Rattle.records.proofs.digit.Tie as tie
+use Rattle.hex.proofs.Laws.{below, above, digit-decimal, digit-upper, digit-lower, digit-none}
+use Rattle.hex.proofs.digit.Statement.{statement}
+use Rattle.hex.proofs.digit.Tie as tie
 
 sub-result : tie.Need-sub-result
 sub-result c = search needs

@@ -7,9 +7,9 @@ use native.Mathlib.Numerals.{add-one}
 use native.Mathlib.Omega.{arith}
 use lib.ListN.{length, drop, getD, set, length-set, drop-of-length-le}
 use lib.Seq.{sets, drop-cons}
-use Rattle.records.specs.Hex.{glyphOf, hexOf}
-use Rattle.records.proofs.put_digits.Statement.{statement}
-use Rattle.records.proofs.put_digits.Tie as tie
+use Rattle.hex.specs.Hex.{glyphOf, hexOf}
+use Rattle.hex.proofs.put_digits.Statement.{statement}
+use Rattle.hex.proofs.put_digits.Tie as tie
 
 abbrev Inv-loop : tie.InvT-loop
 Inv-loop s out₀ i₀ out i =

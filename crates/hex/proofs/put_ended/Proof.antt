@@ -6,9 +6,9 @@ use mathlib.Core.Bool.{true}
 use native.Mathlib.Omega.{arith}
 use borrow.Author.Tests.{lt-ltb, le-ltb}
 use lib.Dec.{ltb}
-use Rattle.records.specs.Hex.{digitOf}
-use Rattle.records.proofs.put_ended.Statement.{statement}
-use Rattle.records.proofs.put_ended.Tie as tie
+use Rattle.hex.specs.Hex.{digitOf}
+use Rattle.hex.proofs.put_ended.Statement.{statement}
+use Rattle.hex.proofs.put_ended.Tie as tie
 
 -- the digit ends a byte
 within : (c : tie.After-digit) → c .digit .result < 16

@@ -1,9 +1,9 @@
 -- The test is the definition's.
 use borrow.Author.Needs.{needs}
 use borrow.Author.Tests.{lt-ltb, le-ltb}
-use Rattle.records.specs.Hex.{glyphOf}
-use Rattle.records.proofs.glyph.Statement.{statement}
-use Rattle.records.proofs.glyph.Tie as tie
+use Rattle.hex.specs.Hex.{glyphOf}
+use Rattle.hex.proofs.glyph.Statement.{statement}
+use Rattle.hex.proofs.glyph.Tie as tie
 
 add-result : tie.Need-add-result
 add-result c = search needs

@@ -6,10 +6,10 @@ use native.Mathlib.Omega.{arith}
 use borrow.Author.Tests.{lt-ltb, le-ltb}
 use lib.ListN.{length}
 use Rattle.wire.proofs.Stores.{part-sets}
-use Rattle.records.specs.Hex.{hexOf, printedOf}
-use Rattle.records.proofs.Laws.{hex-length}
-use Rattle.records.proofs.hex_of.Statement.{statement}
-use Rattle.records.proofs.hex_of.Tie as tie
+use Rattle.hex.specs.Hex.{hexOf, printedOf}
+use Rattle.hex.proofs.Laws.{hex-length}
+use Rattle.hex.proofs.hex_of.Statement.{statement}
+use Rattle.hex.proofs.hex_of.Tie as tie
 
 returns : tie.Need-returns
 unfolding printedOf

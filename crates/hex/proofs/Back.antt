@@ -8,9 +8,9 @@ use borrow.Author.Tests.{lt-ltb, le-ltb, ltb-true, ltb-false, ne-eqb}
 use lib.Dec.{eqb, ltb}
 use lib.ListN.{length}
 use Rattle.wire.specs.Number.{AtMost}
-use Rattle.records.specs.Hex.{digitOf, placeOn, placeAfter, bytesFrom, between, bytesIn, isHex, saidOf, glyphOf, hexOf}
-use Rattle.records.specs.declared.Said.the-variants.{Bytes}
-use Rattle.records.proofs.Laws.{digit-decimal, digit-lower}
+use Rattle.hex.specs.Hex.{digitOf, placeOn, placeAfter, bytesFrom, between, bytesIn, isHex, saidOf, glyphOf, hexOf}
+use Rattle.hex.specs.declared.Said.the-variants.{Bytes}
+use Rattle.hex.proofs.Laws.{digit-decimal, digit-lower}
 
 -- a digit's value is that of the digit printed
 digit-back : (d : ℕ) → d < 16 → digitOf (glyphOf d) ≡ d

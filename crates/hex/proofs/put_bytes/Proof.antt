@@ -7,10 +7,10 @@ use native.Mathlib.Omega.{arith}
 use borrow.Author.Tests.{eqb-true}
 use lib.ListN.{length, drop, drop-of-length-le}
 use lib.Seq.{sets}
-use Rattle.records.specs.Hex.{placeAfter, bytesFrom, between, isHex, bytesIn}
-use Rattle.records.proofs.Laws.{begun-ends, place-turn, size-turn, store-turn, store-kept}
-use Rattle.records.proofs.put_bytes.Statement.{statement}
-use Rattle.records.proofs.put_bytes.Tie as tie
+use Rattle.hex.specs.Hex.{placeAfter, bytesFrom, between, isHex, bytesIn}
+use Rattle.hex.proofs.Laws.{begun-ends, place-turn, size-turn, store-turn, store-kept}
+use Rattle.hex.proofs.put_bytes.Statement.{statement}
+use Rattle.hex.proofs.put_bytes.Tie as tie
 
 abbrev Inv-loop : tie.InvT-loop
 Inv-loop s out₀ place₀ n₀ i₀ out place n i =

@@ -1,8 +1,8 @@
 -- The test is the definition's.
 use native.Mathlib.Omega.{arith}
 use borrow.Author.Tests.{lt-ltb, le-ltb}
-use Rattle.records.proofs.ended.Statement.{statement}
-use Rattle.records.proofs.ended.Tie as tie
+use Rattle.hex.proofs.ended.Statement.{statement}
+use Rattle.hex.proofs.ended.Tie as tie
 
 returns : tie.Need-returns
 returns c = (rw (lt-ltb _ _ (c .if1 .taken)), omega arith)
