@@ -104,7 +104,8 @@ fn f8_of(bits: u64) -> Element
     }
 }
 
-fn f4_bits(x: f32) -> u32
+// The bits of a float; of a NaN, whose pattern it does not carry, those of the quiet one.
+pub fn f4_bits(x: f32) -> u32
     ensures { λ r. ⌜ r ≡ toBits binary32 x ⌝ }
 {
     if x != x {
@@ -113,7 +114,7 @@ fn f4_bits(x: f32) -> u32
     f32::to_bits(x)
 }
 
-fn f8_bits(x: f64) -> u64
+pub fn f8_bits(x: f64) -> u64
     ensures { λ r. ⌜ r ≡ toBits binary64 x ⌝ }
 {
     if x != x {

@@ -43,20 +43,6 @@ fn signed_bits(x: i64) -> u64 {
     }
 }
 
-fn f4_bits(x: f32) -> u32 {
-    if x != x {
-        return 0x7FC0_0000;
-    }
-    f32::to_bits(x)
-}
-
-fn f8_bits(x: f64) -> u64 {
-    if x != x {
-        return 0x7FF8_0000_0000_0000;
-    }
-    f64::to_bits(x)
-}
-
 fn element_fields(e: Element) {
     match e {
         Element::Signed(x) => bits(b"\tsigned\t", signed_bits(x), 16),
@@ -64,8 +50,8 @@ fn element_fields(e: Element) {
             put(b"\tunsigned\t");
             io::print_decimal(STDOUT_FILENO, n);
         }
-        Element::F4(x) => bits(b"\tf4\t", f4_bits(x) as u64, 8),
-        Element::F8(x) => bits(b"\tf8\t", f8_bits(x), 16),
+        Element::F4(x) => bits(b"\tf4\t", element::f4_bits(x) as u64, 8),
+        Element::F8(x) => bits(b"\tf8\t", element::f8_bits(x), 16),
         Element::Byte(b) => {
             put(b"\tbyte");
             decimal(b as usize);

@@ -169,21 +169,6 @@ fn end(k: Kept) -> Kept {
 
 // ---- a frame written
 
-fn header_in(b: &[u8]) -> Header {
-    frame::header_of([
-        records::byte_at(b, 0),
-        records::byte_at(b, 1),
-        records::byte_at(b, 2),
-        records::byte_at(b, 3),
-        records::byte_at(b, 4),
-        records::byte_at(b, 5),
-        records::byte_at(b, 6),
-        records::byte_at(b, 7),
-        records::byte_at(b, 8),
-        records::byte_at(b, 9),
-    ])
-}
-
 fn write_line(h: Header, text: &[u8], out: &mut [u8]) {
     put(b"frame");
     answer(frame::write(h, text, out));
@@ -199,7 +184,11 @@ fn write(k: Kept, b: &[u8]) -> Kept {
     let room = records::half_at(b, 10) as usize;
     let mut out = records::blank();
     if room <= out.len() {
-        write_line(header_in(b), &b[12..], &mut out[0..room]);
+        write_line(
+            frame::header_of(records::ten_in(b)),
+            &b[12..],
+            &mut out[0..room],
+        );
     }
     k
 }

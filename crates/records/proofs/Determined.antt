@@ -5,6 +5,7 @@ use Rattle.records.proofs.byte_at.Reads as byte-at-reads
 use Rattle.records.proofs.half_at.Reads as half-at-reads
 use Rattle.records.proofs.word_at.Reads as word-at-reads
 use Rattle.records.proofs.double_at.Reads as double-at-reads
+use Rattle.records.proofs.ten_in.Reads as ten-in-reads
 use Rattle.records.proofs.words_in.Reads as words-in-reads
 use Rattle.records.proofs.room.Reads as room-reads
 use Rattle.records.proofs.blank.Reads as blank-reads
@@ -20,6 +21,9 @@ word-at-one κs a r r′ s s′ p q = p ∙ sym q
 
 double-at-one : (κs : _) (a : _) (r r′ : _) (s s′ : _) → double-at-reads.Post κs a r s → double-at-reads.Post κs a r′ s′ → r ≡ r′
 double-at-one κs a r r′ s s′ p q = p ∙ sym q
+
+ten-in-one : (κs : _) (a : _) (r r′ : _) (s s′ : _) → ten-in-reads.Post κs a r s → ten-in-reads.Post κs a r′ s′ → r ≡ r′
+ten-in-one κs a r r′ s s′ p q = p ∙ sym q
 
 words-in-one : (κs : _) (a : _) (r r′ : _) (s s′ : _) → words-in-reads.Post κs a r s → words-in-reads.Post κs a r′ s′ → now (s .1 .0) ≡ now (s′ .1 .0)
 words-in-one κs a r r′ s s′ p q = p ∙ sym q

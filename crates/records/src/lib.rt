@@ -2,7 +2,7 @@ ghost use mathlib.Core.Path.{_≡_};
 ghost use Prim.Native.Nat.{_≤_};
 ghost use lib.ListN.{length, take, drop};
 ghost use lib.Seq.{sets};
-ghost use Rattle.records.specs.Fields.{fieldOf, wordsIn};
+ghost use Rattle.records.specs.Fields.{fieldOf, wordsIn, tenIn};
 
 // ---- fields
 
@@ -43,6 +43,15 @@ pub fn double_at(s: &[u8], at: usize) -> u64
     ensures { λ r. ⌜ r ≡ fieldOf 8 (now (s .entry)) at ⌝ }
 {
     wire::number(part(s, at, 8))
+}
+
+// The first ten bytes, 00 where there are fewer.
+pub fn ten_in(s: &[u8]) -> [u8; 10]
+    ensures { λ r. ⌜ r ≡ tenIn (now (s .entry)) ⌝ }
+{
+    let mut ten = [0u8; 10];
+    wire::copy(&mut ten, s);
+    ten
 }
 
 // Puts the numbers of four bytes each that s has at the start of out, as far as there is room for them.

@@ -1,5 +1,4 @@
 use bytes::scan;
-use frame::Header;
 use hex::Said;
 use libc::STDIN_FILENO;
 use libc::STDOUT_FILENO;
@@ -141,21 +140,6 @@ fn make(s: Session, b: &[u8]) -> Session {
     next
 }
 
-fn header_in(b: &[u8]) -> Header {
-    frame::header_of([
-        records::byte_at(b, 0),
-        records::byte_at(b, 1),
-        records::byte_at(b, 2),
-        records::byte_at(b, 3),
-        records::byte_at(b, 4),
-        records::byte_at(b, 5),
-        records::byte_at(b, 6),
-        records::byte_at(b, 7),
-        records::byte_at(b, 8),
-        records::byte_at(b, 9),
-    ])
-}
-
 // header (10), text
 fn receive(s: Session, b: &[u8]) -> Session {
     if b.len() < 10 {
@@ -163,7 +147,7 @@ fn receive(s: Session, b: &[u8]) -> Session {
     }
     event(
         s,
-        Event::Received(message::received_of(header_in(b))),
+        Event::Received(message::received_of(frame::header_of(records::ten_in(b)))),
         &b[10..],
     )
 }
