@@ -3,6 +3,7 @@ use hex::Said;
 use libc::STDIN_FILENO;
 use libc::STDOUT_FILENO;
 use message::Send;
+use slots::Linktest;
 use slots::Slot;
 use state::Phase;
 use state::Session;
@@ -198,12 +199,98 @@ fn timer(s: Session, b: &[u8]) -> Session {
     event(s, Event::Timer(timer_in(b)), b"")
 }
 
+// ---- a state changed by hand
+
+fn changed(s: Session) -> Session {
+    put(b"state");
+    if listed::allows_state(s) {
+        put(b"\tallowed");
+    } else {
+        put(b"\tbroken");
+    }
+    state_fields(s);
+    put(b"\n");
+    s
+}
+
+// number (4)
+fn number(s: Session, b: &[u8]) -> Session {
+    if b.len() < 4 {
+        return bad(s);
+    }
+    changed(state::with_next(s, records::word_at(b, 0)))
+}
+
+// phase (1)
+fn phase(s: Session, b: &[u8]) -> Session {
+    if b.len() < 1 {
+        return bad(s);
+    }
+    let p = match records::byte_at(b, 0) {
+        0 => Phase::NotConnected,
+        1 => Phase::NotSelected,
+        _ => Phase::Selected,
+    };
+    changed(state::with_phase(s, p))
+}
+
+// running (1), system bytes (4)
+fn linktest(s: Session, b: &[u8]) -> Session {
+    if b.len() < 5 {
+        return bad(s);
+    }
+    let test = Linktest {
+        running: records::byte_at(b, 0) == 1,
+        system: records::word_at(b, 1),
+    };
+    changed(state::with_test(s, test))
+}
+
+// taken (1), system bytes (4), stream (1), function (1), behind which (1) and place (1)
+fn slot_in(b: &[u8]) -> Slot {
+    Slot {
+        taken: records::byte_at(b, 2) == 1,
+        system: records::word_at(b, 3),
+        stream: records::byte_at(b, 7),
+        function: records::byte_at(b, 8),
+    }
+}
+
+fn slot(s: Session, b: &[u8]) -> Session {
+    if b.len() < 9 {
+        return bad(s);
+    }
+    let place = records::byte_at(b, 1) as usize;
+    let x = slot_in(b);
+    let d = s.device;
+    let received = d.received;
+    let own = d.own;
+    if records::byte_at(b, 0) == 0 {
+        changed(state::with_received(s, slots::with_slot(received, place, x)))
+    } else {
+        changed(state::with_own(s, slots::with_slot(own, place, x)))
+    }
+}
+
+// stream (1), flag (1)
+fn flag(s: Session, b: &[u8]) -> Session {
+    if b.len() < 2 {
+        return bad(s);
+    }
+    changed(state::with_flag(s, records::byte_at(b, 0), records::byte_at(b, 1) == 1))
+}
+
 fn record(s: Session, letter: u8, b: &[u8]) -> Session {
     match letter {
         b'm' => make(s, b),
         b'r' => receive(s, b),
         b'w' => wish(s, b),
         b't' => timer(s, b),
+        b'n' => number(s, b),
+        b'p' => phase(s, b),
+        b'l' => linktest(s, b),
+        b'x' => slot(s, b),
+        b'g' => flag(s, b),
         _ => bad(s),
     }
 }
