@@ -1,8 +1,8 @@
 // Lists the captured byte stream on standard input: blocks are read, handed to the library, and what it printed is written.
+use capture::Lister;
 use libc::STDERR_FILENO;
 use libc::STDIN_FILENO;
 use libc::STDOUT_FILENO;
-use listing::Lister;
 
 // The lister behind a block, and whether to go on: it has not stopped, and what it printed was written.
 struct Turn {
@@ -44,8 +44,9 @@ fn list_block(l: Lister, block: &[u8]) -> Turn {
 
 // The last line.
 fn list_end(l: Lister) {
-    let mut out = [0u8; 64];
-    let n = listing::finish(l, &mut out);
+    let mut out = [0u8; 160];
+    let line = capture::last_line(l);
+    let n = lines::print(line, &mut out);
     if io::write_all(STDOUT_FILENO, &out[0..n]) {} else {
         cannot_write();
     }
@@ -54,7 +55,7 @@ fn list_end(l: Lister) {
 // A proved loop has to end, and nothing says that a stream does: so the blocks are counted down, from a number that no run uses up.
 fn main() {
     let mut block = io::large_buffer();
-    let mut state = listing::fresh_lister();
+    let mut state = capture::fresh_lister();
     let mut blocks = u64::MAX;
     while blocks > 0 {
         let n = io::read_full(STDIN_FILENO, &mut block);

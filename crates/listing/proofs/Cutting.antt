@@ -8,89 +8,91 @@ use borrow.Author.Tests.{le-leb, leb-true}
 use lib.Dec.{leb}
 use lib.ListN.{length, take, drop, length-append, length-take, length-drop}
 use lib.Seq.{sets, length-sets}
-use Rattle.listing.specs.Listing.{Told, told, behind, freshLister, byteTold, bytesTold, lastLine, listingOf}
+use Rattle.lines.specs.Text.{lineText}
+use Rattle.capture.specs.Capture.{freshLister, lastLine}
+use Rattle.listing.specs.Listing.{Printed, printed, behind, bytePrinted, bytesPrinted, listingOf}
 use Rattle.listing.specs.Piece.{Run, one, none, run, listedBy}
 use Rattle.listing.specs.Calls.{Call, runOf, called, eaten}
-use Rattle.listing.specs.declared.Lister.{Lister}
+use Rattle.capture.specs.declared.Lister.{Lister}
 use Rattle.listing.specs.declared.Listed.{Listed}
 use Rattle.listing.proofs.Short.{byte-short}
 
-behind-behind : (s t : List ℕ) (x : Told) → behind s (behind t x) ≡ behind (s ++ t) x
-behind-behind s t x = ap (λ (v : List ℕ). told (x .lister) v) (sym (append-assoc s t (x .lines)))
+behind-behind : (s t : List ℕ) (x : Printed) → behind s (behind t x) ≡ behind (s ++ t) x
+behind-behind s t x = ap (λ (v : List ℕ). printed (x .lister) v) (sym (append-assoc s t (x .lines)))
 
 -- bytes behind bytes
-pub told-append : (l : Lister) (p q : List ℕ) → bytesTold l (p ++ q) ≡ behind (bytesTold l p .lines) (bytesTold (bytesTold l p .lister) q)
-unfolding bytesTold
-told-append l [] q = refl
-told-append l (b ∷ p) q =
-    let t = byteTold l b in
-    ap (behind (t .lines)) (told-append (t .lister) p q)
-    ∙ behind-behind (t .lines) (bytesTold (t .lister) p .lines) (bytesTold (bytesTold (t .lister) p .lister) q)
+pub printed-append : (l : Lister) (p q : List ℕ) → bytesPrinted l (p ++ q) ≡ behind (bytesPrinted l p .lines) (bytesPrinted (bytesPrinted l p .lister) q)
+unfolding bytesPrinted
+printed-append l [] q = refl
+printed-append l (b ∷ p) q =
+    let t = bytePrinted l b in
+    ap (behind (t .lines)) (printed-append (t .lister) p q)
+    ∙ behind-behind (t .lines) (bytesPrinted (t .lister) p .lines) (bytesPrinted (bytesPrinted (t .lister) p .lister) q)
 
 -- ---- one call
 
-abbrev toldBy : Run → Told
-toldBy r = told (r .lister) (r .lines)
+abbrev printedBy : Run → Printed
+printedBy r = printed (r .lister) (r .lines)
 
 -- of the bytes that it consumes a call prints all, and no others
-pub run-told : (l : Lister) (room : ℕ) (p : List ℕ) → bytesTold l (take (run l room p .consumed) p) ≡ toldBy (run l room p)
-unfolding run bytesTold
-run-told l room [] = refl
-run-told l room (b ∷ p) = go (leb 256 room) (run-told (byteTold l b .lister) (room - length (byteTold l b .lines)) p)
+pub run-printed : (l : Lister) (room : ℕ) (p : List ℕ) → bytesPrinted l (take (run l room p .consumed) p) ≡ printedBy (run l room p)
+unfolding run bytesPrinted
+run-printed l room [] = refl
+run-printed l room (b ∷ p) = go (leb 320 room) (run-printed (bytePrinted l b .lister) (room - length (bytePrinted l b .lines)) p)
   where
     go : (t : Bool)
-        → bytesTold (byteTold l b .lister) (take (run (byteTold l b .lister) (room - length (byteTold l b .lines)) p .consumed) p)
-        ≡ toldBy (run (byteTold l b .lister) (room - length (byteTold l b .lines)) p)
-        → bytesTold l (take (cond t (one (byteTold l b) (run (byteTold l b .lister) (room - length (byteTold l b .lines)) p)) (none l) .consumed) (b ∷ p))
-        ≡ toldBy (cond t (one (byteTold l b) (run (byteTold l b .lister) (room - length (byteTold l b .lines)) p)) (none l))
-    go true h = ap (behind (byteTold l b .lines)) h
+        → bytesPrinted (bytePrinted l b .lister) (take (run (bytePrinted l b .lister) (room - length (bytePrinted l b .lines)) p .consumed) p)
+        ≡ printedBy (run (bytePrinted l b .lister) (room - length (bytePrinted l b .lines)) p)
+        → bytesPrinted l (take (cond t (one (bytePrinted l b) (run (bytePrinted l b .lister) (room - length (bytePrinted l b .lines)) p)) (none l) .consumed) (b ∷ p))
+        ≡ printedBy (cond t (one (bytePrinted l b) (run (bytePrinted l b .lister) (room - length (bytePrinted l b .lines)) p)) (none l))
+    go true h = ap (behind (bytePrinted l b .lines)) h
     go false h = refl
 
 pub run-within : (l : Lister) (room : ℕ) (p : List ℕ) → run l room p .consumed ≤ length p
 unfolding run
 run-within l room [] = omega arith
-run-within l room (b ∷ p) = go (leb 256 room) (run-within (byteTold l b .lister) (room - length (byteTold l b .lines)) p)
+run-within l room (b ∷ p) = go (leb 320 room) (run-within (bytePrinted l b .lister) (room - length (bytePrinted l b .lines)) p)
   where
     go : (t : Bool)
-        → run (byteTold l b .lister) (room - length (byteTold l b .lines)) p .consumed ≤ length p
-        → cond t (one (byteTold l b) (run (byteTold l b .lister) (room - length (byteTold l b .lines)) p)) (none l) .consumed ≤ suc (length p)
+        → run (bytePrinted l b .lister) (room - length (bytePrinted l b .lines)) p .consumed ≤ length p
+        → cond t (one (bytePrinted l b) (run (bytePrinted l b .lister) (room - length (bytePrinted l b .lines)) p)) (none l) .consumed ≤ suc (length p)
     go true h = omega (arith, h)
     go false h = omega arith
 
 -- with room for a byte's lines a call consumes one at least
-pub run-moves : (l : Lister) (room : ℕ) (p : List ℕ) → 256 ≤ room → 0 < length p → 0 < run l room p .consumed
+pub run-moves : (l : Lister) (room : ℕ) (p : List ℕ) → 320 ≤ room → 0 < length p → 0 < run l room p .consumed
 unfolding run
 run-moves l room [] h k = k
-run-moves l room (b ∷ p) h k = rw (le-leb 256 room h) (omega arith)
+run-moves l room (b ∷ p) h k = rw (le-leb 320 room h) (omega arith)
 
 -- ---- calls one behind another
 
-pub calls-told : (l : Lister) (cs : List Call) → bytesTold l (eaten l cs) ≡ called l cs
-unfolding called eaten bytesTold
-calls-told l [] = refl
-calls-told l (c ∷ cs) =
+pub calls-printed : (l : Lister) (cs : List Call) → bytesPrinted l (eaten l cs) ≡ called l cs
+unfolding called eaten bytesPrinted
+calls-printed l [] = refl
+calls-printed l (c ∷ cs) =
     let r = runOf l c in
-    told-append l (take (r .consumed) (c .piece)) (eaten (r .lister) cs)
-    ∙ ap (λ (t : Told). behind (t .lines) (bytesTold (t .lister) (eaten (r .lister) cs))) (run-told l (c .room) (c .piece))
-    ∙ ap (behind (r .lines)) (calls-told (r .lister) cs)
+    printed-append l (take (r .consumed) (c .piece)) (eaten (r .lister) cs)
+    ∙ ap (λ (t : Printed). behind (t .lines) (bytesPrinted (t .lister) (eaten (r .lister) cs))) (run-printed l (c .room) (c .piece))
+    ∙ ap (behind (r .lines)) (calls-printed (r .lister) cs)
 
 -- the listing of a stream, however it was cut
-pub listed-so : (cs : List Call) (s : List ℕ) → eaten freshLister cs ≡ s → called freshLister cs .lines ++ lastLine (called freshLister cs .lister) ≡ listingOf s
+pub listed-so : (cs : List Call) (s : List ℕ) → eaten freshLister cs ≡ s → called freshLister cs .lines ++ lineText (lastLine (called freshLister cs .lister)) ≡ listingOf s
 unfolding listingOf
 listed-so cs s e =
-    ap (λ (t : Told). t .lines ++ lastLine (t .lister)) (sym (calls-told freshLister cs)) ∙ ap (λ (x : List ℕ). bytesTold freshLister x .lines ++ lastLine (bytesTold freshLister x .lister)) e
+    ap (λ (t : Printed). t .lines ++ lineText (lastLine (t .lister))) (sym (calls-printed freshLister cs)) ∙ ap (λ (x : List ℕ). bytesPrinted freshLister x .lines ++ lineText (lastLine (bytesPrinted freshLister x .lister))) e
 
 -- what a call prints has room
 pub run-fits : (l : Lister) (room : ℕ) (p : List ℕ) → length (run l room p .lines) ≤ room
 unfolding run
 run-fits l room [] = omega arith
-run-fits l room (b ∷ p) = go (leb 256 room) refl (run-fits (byteTold l b .lister) (room - length (byteTold l b .lines)) p)
+run-fits l room (b ∷ p) = go (leb 320 room) refl (run-fits (bytePrinted l b .lister) (room - length (bytePrinted l b .lines)) p)
   where
-    go : (t : Bool) → leb 256 room ≡ t
-        → length (run (byteTold l b .lister) (room - length (byteTold l b .lines)) p .lines) ≤ room - length (byteTold l b .lines)
-        → length (cond t (one (byteTold l b) (run (byteTold l b .lister) (room - length (byteTold l b .lines)) p)) (none l) .lines) ≤ room
+    go : (t : Bool) → leb 320 room ≡ t
+        → length (run (bytePrinted l b .lister) (room - length (bytePrinted l b .lines)) p .lines) ≤ room - length (bytePrinted l b .lines)
+        → length (cond t (one (bytePrinted l b) (run (bytePrinted l b .lister) (room - length (bytePrinted l b .lines)) p)) (none l) .lines) ≤ room
     go true e h =
-        omega (arith, length-append (byteTold l b .lines) (run (byteTold l b .lister) (room - length (byteTold l b .lines)) p .lines), byte-short l b, leb-true 256 room e, h)
+        omega (arith, length-append (bytePrinted l b .lines) (run (bytePrinted l b .lister) (room - length (bytePrinted l b .lines)) p .lines), byte-short l b, leb-true 320 room e, h)
     go false e h = omega arith
 
 -- the same of a call's answer, for a block from a place on
@@ -101,7 +103,7 @@ module _ (l : Lister) (room : ℕ) (block : List ℕ) (from : ℕ) (r : Listed) 
       let p = take (length block - from) (drop from block) in
       rw e (omega (arith, run-within l room p, length-take (length block - from) (drop from block), h))
 
-  pub rest-moves : 256 ≤ room → 0 < r .consumed
+  pub rest-moves : 320 ≤ room → 0 < r .consumed
   rest-moves k =
       let p = take (length block - from) (drop from block) in
       rw e (run-moves l room p k (omega (arith, length-take (length block - from) (drop from block), length-drop from block, h)))

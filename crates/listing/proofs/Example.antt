@@ -13,9 +13,10 @@ use Rattle.frame.specs.Header.{headerOf}
 use Rattle.frame.specs.Frame.{lengthNumber, kindNumber}
 use Rattle.frames.specs.State.{readerOf, stateOf}
 use Rattle.frames.specs.Feed.{headNumber, after, textFed, endOf, allows as allowsFrames, eat as eatHead, fedOf as fedFrames}
-use Rattle.listing.specs.Decimal.{spelled}
-use Rattle.listing.specs.Line.{fields, messageLine, itemLine, endLine}
-use Rattle.listing.specs.Listing.{freshLister, textByte, headerCame, settled, fedByte, byteTold, endedBy, lastLine, bytesTold, listingOf}
+use Rattle.lines.specs.Decimal.{spelled}
+use Rattle.lines.specs.Text.{fields, messageLine, itemLine, endLine}
+use Rattle.capture.specs.Capture.{freshLister, textByte, headerCame, settled, fedByte, byteTold, endedBy, lastLine}
+use Rattle.listing.specs.Listing.{bytePrinted, bytesPrinted, listingOf}
 
 abbrev pub stream : List ℕ
 stream = 0x00 ∷ 0x00 ∷ 0x00 ∷ 0x0C ∷ 0x00 ∷ 0x01 ∷ 0x81 ∷ 0x0D ∷ 0x00 ∷ 0x00 ∷ 0x00 ∷ 0x00 ∷ 0x00 ∷ 0x07 ∷ 0x01 ∷ 0x00 ∷ []
@@ -24,5 +25,5 @@ abbrev pub lines : List ℕ
 lines = letters "M\t1\t0\t0\t129\t13\t7\t2\nI\t1\tL\t0\nE\t1\t16\n"
 
 pub example : listingOf stream ≡ lines
-unfolding numberOf kindOf allowed largest total leaving stackOf levelsOf cleanOf fitsItems fitsList fitsPlain fitsLengths fresh known atFormat atList atPlain atLength atContent stepAt step allowsPhase allowsFrame allowsEnd allows status eat fedOf headerOf lengthNumber kindNumber readerOf stateOf headNumber after textFed endOf allowsFrames eatHead fedFrames spelled fields messageLine itemLine endLine freshLister textByte headerCame settled fedByte byteTold endedBy lastLine bytesTold listingOf
+unfolding numberOf kindOf allowed largest total leaving stackOf levelsOf cleanOf fitsItems fitsList fitsPlain fitsLengths fresh known atFormat atList atPlain atLength atContent stepAt step allowsPhase allowsFrame allowsEnd allows status eat fedOf headerOf lengthNumber kindNumber readerOf stateOf headNumber after textFed endOf allowsFrames eatHead fedFrames spelled fields messageLine itemLine endLine freshLister textByte headerCame settled fedByte byteTold endedBy lastLine bytePrinted bytesPrinted listingOf
 example = refl

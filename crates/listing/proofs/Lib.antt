@@ -1,12 +1,5 @@
-pub mod Digits
-pub mod Placed
-pub mod Numbered
-pub mod Fields
-pub mod Stored
-pub mod Named
-pub mod Texts
-pub mod Told
 pub mod Short
+pub mod Placed
 pub mod Runs
 pub mod Cutting
 pub mod Example

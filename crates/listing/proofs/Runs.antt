@@ -8,12 +8,12 @@ use borrow.Author.Tests.{le-leb, lt-leb}
 use lib.ListN.{length, drop, getD, length-append}
 use lib.Seq.{sets, drop-cons, drop-length}
 use Rattle.wire.proofs.Stores.{sets-append}
-use Rattle.listing.specs.Listing.{byteTold}
-use Rattle.listing.specs.Piece.{Run, one, none, run, printed, listedBy}
-use Rattle.listing.specs.declared.Lister.{Lister}
-use Rattle.listing.specs.declared.Printed.{Printed}
-use Rattle.listing.proofs.Short.{byte-short}
-use Rattle.listing.proofs.Told.{Prints}
+use Rattle.capture.specs.Capture.{byteTold}
+use Rattle.capture.specs.declared.Told.{Told}
+use Rattle.lines.proofs.Stored.{Stored}
+use Rattle.listing.specs.Listing.{linesOf, bytePrinted}
+use Rattle.listing.specs.Piece.{Run, one, none, run, listedBy}
+use Rattle.capture.specs.declared.Lister.{Lister}
 
 -- what r still prints behind a place of out is what r₀ prints of all, into s
 pub record Joined (r₀ : Run) (s : List ℕ) (r : Run) (out : List ℕ) (i at : ℕ) : Type 0 where
@@ -29,39 +29,47 @@ joined-first l s p =
 
 -- a byte more
 module _ (l : Lister) (room : ℕ) (p : List ℕ) (i : ℕ) (h : i < length p) where
-  run-more : 256 ≤ room → run l room (drop i p) ≡ one (byteTold l (getD p i 0)) (run (byteTold l (getD p i 0) .lister) (room - length (byteTold l (getD p i 0) .lines)) (drop (suc i) p))
+  run-more : 320 ≤ room → run l room (drop i p) ≡ one (bytePrinted l (getD p i 0)) (run (bytePrinted l (getD p i 0) .lister) (room - length (bytePrinted l (getD p i 0) .lines)) (drop (suc i) p))
   unfolding run
-  run-more k = ap (run l room) (drop-cons p i 0 h) ∙ rw (le-leb 256 room k)
+  run-more k = ap (run l room) (drop-cons p i 0 h) ∙ rw (le-leb 320 room k)
 
-  pub run-full : room < 256 → run l room (drop i p) ≡ none l
+  pub run-full : room < 320 → run l room (drop i p) ≡ none l
   unfolding run
-  run-full k = ap (run l room) (drop-cons p i 0 h) ∙ rw (lt-leb 256 room k)
+  run-full k = ap (run l room) (drop-cons p i 0 h) ∙ rw (lt-leb 320 room k)
 
 pub run-end : (l : Lister) (room : ℕ) (p : List ℕ) (i : ℕ) → i ≡ length p → run l room (drop i p) ≡ none l
 unfolding run
 run-end l room p i e = ap (λ (k : ℕ). run l room (drop k p)) e ∙ ap (run l room) (drop-length p)
 
 -- the rest behind that byte
-module _ (r₀ : Run) (s p out : List ℕ) (l : Lister) (i at : ℕ) (h : i < length p) (k : 256 ≤ length s - at) where
-  pub joined-next : (q : Printed) (out′ : List ℕ) → Joined r₀ s (run l (length s - at) (drop i p)) out i at → Prints out at (byteTold l (getD p i 0)) q out′
-      → Joined r₀ s (run (q .lister) (length s - q .end) (drop (i + 1) p)) out′ (i + 1) (q .end)
-  joined-next q out′ j w =
-      let t = byteTold l (getD p i 0) in
-      let r = run (t .lister) (length s - at - length (t .lines)) (drop (suc i) p) in
-      let e = run-more l (length s - at) p i h k in
-      let room : length s - (at + length (t .lines)) ≡ length s - at - length (t .lines) = omega arith in
-      let next : i + 1 ≡ suc i = add-one i in
-      let same : run (q .lister) (length s - q .end) (drop (i + 1) p) ≡ r = rw (w .answered, room, next) in
-      rw (same, w .answered)
-      (record {
-        lister = sym (ap (λ (x : Run). x .lister) e) ∙ j .lister;
-        consumed = omega (arith, ap (λ (x : Run). x .consumed) e, j .consumed);
-        used = omega (arith, ap (λ (x : Run). length (x .lines)) e, length-append (t .lines) (r .lines), j .used);
-        stored = rw (w .stored) (sets-append out at (t .lines) (r .lines) ∙ ap (λ (x : Run). sets out at (x .lines)) (sym e) ∙ j .stored);
-      })
+module _ (r₀ : Run) (s p out : List ℕ) (l : Lister) (i at : ℕ) (h : i < length p) (k : 320 ≤ length s - at) (t : Told) (e : t ≡ byteTold l (getD p i 0)) where
+  as-printed : (t .lister ≡ bytePrinted l (getD p i 0) .lister) × (linesOf t ≡ bytePrinted l (getD p i 0) .lines)
+  unfolding bytePrinted
+  as-printed = (ap (λ (x : Told). x .lister) e, ap linesOf e)
 
-  pub next-within : (q : Printed) → q ≡ printed at (byteTold l (getD p i 0)) → q .end ≤ length s
-  next-within q e = rw e (omega (arith, byte-short l (getD p i 0), k))
+  pub joined-next : (end : ℕ) (out′ : List ℕ) → Joined r₀ s (run l (length s - at) (drop i p)) out i at → Stored out at (linesOf t) out′ end
+      → Joined r₀ s (run (t .lister) (length s - end) (drop (i + 1) p)) out′ (i + 1) end
+  joined-next end out′ j w =
+      let b = bytePrinted l (getD p i 0) in
+      let r = run (b .lister) (length s - at - length (b .lines)) (drop (suc i) p) in
+      let m = run-more l (length s - at) p i h k in
+      let lines : linesOf t ≡ b .lines = as-printed .1 in
+      let behind : end ≡ at + length (b .lines) = w .behind ∙ ap (λ (x : List ℕ). at + length x) lines in
+      let room : length s - (at + length (b .lines)) ≡ length s - at - length (b .lines) = omega arith in
+      let next : i + 1 ≡ suc i = add-one i in
+      let same : run (t .lister) (length s - end) (drop (i + 1) p) ≡ r = rw (as-printed .0, behind, room, next) in
+      rw same
+      (record {
+        lister = sym (ap (λ (x : Run). x .lister) m) ∙ j .lister;
+        consumed = omega (arith, ap (λ (x : Run). x .consumed) m, j .consumed);
+        used = omega (arith, behind, ap (λ (x : Run). length (x .lines)) m, length-append (b .lines) (r .lines), j .used);
+        stored =
+            ap (λ (x : List ℕ). sets x end (r .lines)) (w .is ∙ ap (sets out at) lines)
+            ∙ ap (λ (x : ℕ). sets (sets out at (b .lines)) x (r .lines)) behind
+            ∙ sets-append out at (b .lines) (r .lines)
+            ∙ ap (λ (x : Run). sets out at (x .lines)) (sym m)
+            ∙ j .stored;
+      })
 
 -- nothing is left of the piece, or of the room
 pub joined-last : (r₀ r : Run) (s out : List ℕ) (l : Lister) (i at : ℕ) → Joined r₀ s r out i at → r ≡ none l

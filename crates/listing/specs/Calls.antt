@@ -2,9 +2,9 @@
 use Prim.Native.Nat.{ℕ, _+_}
 use mathlib.Core.List.{List, [], _∷_, _++_}
 use lib.ListN.{take}
-use Rattle.listing.specs.Listing.{Told, told, behind}
+use Rattle.listing.specs.Listing.{Printed, printed, behind}
 use Rattle.listing.specs.Piece.{Run, run}
-use Rattle.listing.specs.declared.Lister.{Lister}
+use Rattle.capture.specs.declared.Lister.{Lister}
 
 pub record Call : Type 0 where
   pub piece : List ℕ
@@ -14,8 +14,8 @@ abbrev pub runOf : Lister → Call → Run
 runOf l c = run l (c .room) (c .piece)
 
 -- the lister behind the last, and all that they print
-unfoldable pub called : Lister → List Call → Told
-called l [] = told l []
+unfoldable pub called : Lister → List Call → Printed
+called l [] = printed l []
 called l (c ∷ cs) = behind (runOf l c .lines) (called (runOf l c .lister) cs)
 
 -- the bytes that they consume

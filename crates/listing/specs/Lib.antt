@@ -1,5 +1,3 @@
-pub mod Decimal
-pub mod Line
 pub mod Listing
 pub mod Piece
 pub mod Calls

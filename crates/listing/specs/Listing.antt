@@ -1,133 +1,33 @@
--- What each byte of a captured stream prints, and its end: what the fed frame reader and the fed text reader answer, as lines.
-use Prim.Native.Nat.{ℕ, _+_, _*_, _%_, _^_}
-use mathlib.Core.Bool.{Bool, true, false, cond}
+-- What is printed of a captured stream: the lines of each byte, and behind the last byte one line more.
+use Prim.Native.Nat.{ℕ}
 use mathlib.Core.List.{List, [], _∷_, _++_}
-use lib.Dec.{eqb}
-use Rattle.frame.specs.declared.Header.{Header}
-use Rattle.frames.specs.State.{head, readerOf as frameReaderOf}
-use Rattle.frames.specs.Feed.{endOf, fedOf as frameFed}
-use Rattle.frames.specs.declared.Event.{Event}
-use Rattle.frames.specs.declared.Event.the-variants as E
-use Rattle.frames.specs.declared.FrameReader.{FrameReader}
-use Rattle.reader.specs.State.{fresh, readerOf}
-use Rattle.reader.specs.Feed.{status, fedOf}
-use Rattle.reader.specs.declared.Answer.{Answer}
-use Rattle.reader.specs.declared.Answer.the-variants as A
-use Rattle.reader.specs.declared.Phase.{Phase}
-use Rattle.reader.specs.declared.Phase.the-variants as P
-use Rattle.reader.specs.declared.Reader.{Reader}
-use Rattle.listing.specs.Line.{messageLine, itemLine, refusalLine, endLine}
-use Rattle.listing.specs.declared.Lister.{Lister}
+use Rattle.lines.specs.Text.{lineText}
+use Rattle.capture.specs.Capture.{freshLister, byteTold, lastLine}
+use Rattle.capture.specs.declared.Lister.{Lister}
+use Rattle.capture.specs.declared.Told.{Told}
 
 -- a lister, and what was printed
-pub record Told : Type 0 where
+pub record Printed : Type 0 where
   pub lister : Lister
   pub lines : List ℕ
 
-abbrev pub told : Lister → List ℕ → Told
-told l s = record { lister = l; lines = s }
+abbrev pub printed : Lister → List ℕ → Printed
+printed l s = record { lister = l; lines = s }
 
 -- lines, and behind them those of t
-abbrev pub behind : List ℕ → Told → Told
-behind s t = told (t .lister) (s ++ t .lines)
+abbrev pub behind : List ℕ → Printed → Printed
+behind s t = printed (t .lister) (s ++ t .lines)
 
--- one more, of 2^64
-abbrev pub oneMore : ℕ → ℕ
-oneMore n = (n + 1) % 2 ^ 64
+abbrev pub linesOf : Told → List ℕ
+linesOf t = lineText (t .first) ++ lineText (t .second)
 
--- ---- a lister with one part changed
+unfoldable pub bytePrinted : Lister → ℕ → Printed
+bytePrinted l b = printed (byteTold l b .lister) (linesOf (byteTold l b))
 
-abbrev pub withFrames : Lister → FrameReader → ℕ → ℕ → Lister
-withFrames l r frames bytes =
-    record { frames = r; text = l .text; listed = l .listed; stopped = l .stopped; count = frames; bytes = bytes }
-
-abbrev pub withText : Lister → Reader → Bool → Lister
-withText l r b = record { frames = l .frames; text = r; listed = b; stopped = l .stopped; count = l .count; bytes = l .bytes }
-
-abbrev pub stopped : Lister → Lister
-stopped l = record { frames = l .frames; text = l .text; listed = l .listed; stopped = true; count = l .count; bytes = l .bytes }
-
--- before the stream: a reader before a frame, and no text
-unfoldable pub freshLister : Lister
-freshLister =
-    record { frames = frameReaderOf (head []); text = readerOf (fresh 0); listed = false; stopped = false; count = 0; bytes = 0 }
-
--- ---- a byte
-
--- X: refusal number, stream bytes; then it stops
-unfoldable pub refusedBy : ℕ → Lister → Told
-refusedBy e l = told (stopped l) (refusalLine e (l .bytes))
-
--- I is written after the last length byte: v is what the length bytes before it say
-abbrev pub itemAt : Phase → ℕ → ℕ → List ℕ
-itemAt P.Format depth b = []
-itemAt (P.Length c j v) depth b = cond (eqb j 1) (itemLine depth c (v * 256 + b)) []
-itemAt (P.Content c l) depth b = []
-itemAt (P.Refused e) depth b = []
-
--- unless refused
-abbrev pub byAnswer : Answer → List ℕ → Lister → Told
-byAnswer A.More s l = told l s
-byAnswer A.Complete s l = told l s
-byAnswer (A.Refusal e) s l = refusedBy e l
-
--- a text byte is fed to the text reader where the text is listed
-unfoldable pub textByte : Lister → ℕ → Told
-textByte l b =
-    cond (l .listed)
-    (let f = fedOf (l .text) (b ∷ []) in byAnswer (f .answer) (itemAt (l .text .phase) (l .text .level) b) (withText l (f .reader) true))
-    (told l [])
-
--- items are listed for PType 0 and SType 0
-abbrev pub isData : Header → Bool
-isData h = cond (eqb (h .ptype) 0) (eqb (h .stype) 0) false
-
--- M is written after the header; a text that no good one begins with is refused before its first byte
-unfoldable pub headerCame : Lister → Header → ℕ → Told
-headerCame l h n =
-    behind (messageLine h n)
-    (cond (isData h) (byAnswer (status (fresh n)) [] (withText l (readerOf (fresh n)) true)) (told (withText l (l .text) false) []))
-
-abbrev pub byEvent : Event → ℕ → Lister → Told
-byEvent E.More b l = told l []
-byEvent (E.Header h n) b l = headerCame l h n
-byEvent (E.Text k) b l = textByte l b
-byEvent E.End b l = told l []
-byEvent (E.Refusal e) b l = refusedBy e l
-
--- behind a frame's last byte comes its end
-abbrev pub settledBy : Event → Lister → FrameReader → Lister
-settledBy E.More l r = l
-settledBy (E.Header h n) l r = l
-settledBy (E.Text k) l r = l
-settledBy E.End l r = withFrames l r (oneMore (l .count)) (l .bytes)
-settledBy (E.Refusal e) l r = l
-
-unfoldable pub settled : Lister → Lister
-settled l = let f = frameFed (l .frames) [] in settledBy (f .event) l (f .reader)
-
--- a byte goes to the frame reader
-unfoldable pub fedByte : Lister → ℕ → Told
-fedByte l b = let f = frameFed (l .frames) (b ∷ []) in byEvent (f .event) b (withFrames l (f .reader) (l .count) (oneMore (l .bytes)))
-
-unfoldable pub byteTold : Lister → ℕ → Told
-byteTold l b = cond (l .stopped) (told l []) (fedByte (settled l) b)
-
--- ---- the end of the stream
-
--- at a clean end E; inside a frame X
-unfoldable pub endedBy : ℕ → Lister → List ℕ
-endedBy number l = cond (eqb number 0) (endLine (l .count) (l .bytes)) (refusalLine number (l .bytes))
-
-unfoldable pub lastLine : Lister → List ℕ
-lastLine l = cond (l .stopped) [] (endedBy (endOf (settled l .frames)) (settled l))
-
--- ---- a stream
-
-unfoldable pub bytesTold : Lister → List ℕ → Told
-bytesTold l [] = told l []
-bytesTold l (b ∷ s) = behind (byteTold l b .lines) (bytesTold (byteTold l b .lister) s)
+unfoldable pub bytesPrinted : Lister → List ℕ → Printed
+bytesPrinted l [] = printed l []
+bytesPrinted l (b ∷ s) = behind (bytePrinted l b .lines) (bytesPrinted (bytePrinted l b .lister) s)
 
 -- all that is printed of a captured stream
 unfoldable pub listingOf : List ℕ → List ℕ
-listingOf s = bytesTold freshLister s .lines ++ lastLine (bytesTold freshLister s .lister)
+listingOf s = bytesPrinted freshLister s .lines ++ lineText (lastLine (bytesPrinted freshLister s .lister))

@@ -1,12 +1,14 @@
--- The last line has at most 44 bytes.
-use Rattle.listing.proofs.Short.{last-short, last-kept}
-use native.Mathlib.Omega.{arith}
+-- The array has room for any line.
 use borrow.Author.Needs.{needs}
+use Rattle.listing.proofs.Placed.{within}
 use Rattle.lister.proofs.list_end.Statement.{statement}
 use Rattle.lister.proofs.list_end.Tie as tie
 
-finish-requires : tie.Need-finish-requires
-finish-requires c κs = search needs
+last-line-requires : tie.Need-last-line-requires
+last-line-requires c κs = search needs
+
+print-requires : tie.Need-print-requires
+print-requires c κs = search needs
 
 sub-write-all : tie.Need-sub-write-all
 sub-write-all c = search needs
@@ -15,7 +17,7 @@ part-write-all-start : tie.Need-part-write-all-start
 part-write-all-start c = search needs
 
 part-write-all-end : tie.Need-part-write-all-end
-part-write-all-end c = omega (arith, c .before .finish .ensures .0, last-short (c .before .before .before .args .l), last-kept (c .before .before .before .args .l) _ _ (c .before .finish .ensures .1))
+part-write-all-end c = within (c .before .before .before .last-line .result) _ _ (c .before .print .ensures .0) (c .before .print .ensures .1)
 
 write-all-requires : tie.Need-write-all-requires
 write-all-requires c κs = search needs
@@ -33,7 +35,8 @@ pub list-end-spec : {M : Type 1} → statement M
 list-end-spec =
     tie.close
     (tie.spec
-    finish-requires
+    last-line-requires
+    print-requires
     sub-write-all
     part-write-all-start
     part-write-all-end

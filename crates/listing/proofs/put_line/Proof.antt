@@ -1,56 +1,52 @@
--- The letter, the fields and the line end are stored one behind another.
-use mathlib.Core.List.{[], _∷_}
-use Rattle.listing.specs.Line.{newline, fields}
-use native.Mathlib.Omega.{arith}
-use Rattle.listing.proofs.Fields.{fields-short}
-use Rattle.listing.proofs.Stored.{Stored, stored, kept, then}
+-- The line is copied from an array that has room for it.
+use mathlib.Core.Path.{ap}
+use Prim.Native.Nat.{ℕ, _+_}
+use Rattle.listing.proofs.Placed.{within, text-length, placed}
 use borrow.Author.Needs.{needs}
 use Rattle.listing.proofs.put_line.Statement.{statement}
 use Rattle.listing.proofs.put_line.Tie as tie
 
-slice-aggregate-put : tie.Need-slice-aggregate-put
-slice-aggregate-put c = search needs
+print-requires : tie.Need-print-requires
+print-requires c κs = search needs
 
-put-requires : tie.Need-put-requires
-put-requires c κs = search needs
+add-end : tie.Need-add-end
+add-end c = search needs
 
-put-numbers-requires : tie.Need-put-numbers-requires
-put-numbers-requires c κs = search needs
+sub-copy : tie.Need-sub-copy
+sub-copy c = search needs
 
-slice-aggregate-put-2 : tie.Need-slice-aggregate-put-2
-slice-aggregate-put-2 c = search needs
+part-copy-start : tie.Need-part-copy-start
+part-copy-start c = search needs
 
-put-requires-2 : tie.Need-put-requires-2
-put-requires-2 c κs =
-    let a = c .before .before .before .before .before .before .before .before .before .before .before .before .before .args in
-    let g = c .before .before .before .before .before .before .before .before .put in
-    let h = c .before .before .before .before .put-numbers in
-    let p : Stored (a .out .now) (a .at) (a .letter ∷ []) (g .last .0) (g .result) = stored (g .ensures) in
-    let q : Stored (g .last .0) (g .result) (fields (a .ns .now)) (h .last .0) (h .result) = stored (h .ensures) in
-    omega (arith, kept p, kept q, p .behind, q .behind, fields-short (a .ns .now), c .before .before .before .before .before .before .before .before .before .before .before .before .before .pre)
+part-copy-end : tie.Need-part-copy-end
+part-copy-end c = search needs
+
+array-share-prefix-text : tie.Need-array-share-prefix-text
+array-share-prefix-text c = within (c .before .before .before .before .args .line) _ _ (c .before .print .ensures .0) (c .before .print .ensures .1)
+
+slice-aggregate-copy : tie.Need-slice-aggregate-copy
+slice-aggregate-copy c = text-length (c .before .before .before .before .before .args .line) _ _ (c .before .before .print .ensures .0) (c .before .before .print .ensures .1)
+
+copy-requires : tie.Need-copy-requires
+copy-requires c κs = search needs
 
 same-length : tie.Need-same-length
 same-length c = search needs
 
 returns : tie.Need-returns
-returns c =
-    let a = c .before .before .before .before .before .before .before .before .before .before .before .before .before .before .before .before .args in
-    let g = c .before .before .before .before .before .before .before .before .before .before .before .put in
-    let h = c .before .before .before .before .before .before .before .put-numbers in
-    let p : Stored (a .out .now) (a .at) (a .letter ∷ []) (g .last .0) (g .result) = stored (g .ensures) in
-    let q : Stored (g .last .0) (g .result) (fields (a .ns .now)) (h .last .0) (h .result) = stored (h .ensures) in
-    let r : Stored (h .last .0) (h .result) (newline ∷ []) (c .before .before .put2 .last .0) (c .before .before .put2 .result) = stored (c .before .before .put2 .ensures) in
-    let w = then (then p q) r in
-    (w .behind, w .is)
+returns c = (ap (λ (k : ℕ). c .before .before .before .before .before .before .before .before .args .at + k) (c .before .before .before .before .before .print .ensures .0), placed (c .before .before .before .before .before .before .before .before .args .line) _ _ (c .before .before .before .before .before .print .ensures .0) (c .before .before .before .before .before .print .ensures .1) _ _ _ (c .before .before .before .before .before .before .before .before .pre) (c .before .before .copy .ensures))
 
 pub put-line-spec : {M : Type 1} → statement M
 put-line-spec =
     tie.close
     (tie.spec
-    slice-aggregate-put
-    put-requires
-    put-numbers-requires
-    slice-aggregate-put-2
-    put-requires-2
+    print-requires
+    add-end
+    sub-copy
+    part-copy-start
+    part-copy-end
+    array-share-prefix-text
+    slice-aggregate-copy
+    copy-requires
     same-length
     returns)

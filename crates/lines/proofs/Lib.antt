@@ -1,0 +1,8 @@
+pub mod Digits
+pub mod Placed
+pub mod Numbered
+pub mod Fields
+pub mod Stored
+pub mod Named
+pub mod Short
+pub mod Determined
