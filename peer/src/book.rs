@@ -1,6 +1,6 @@
 //! A program's lines in and the lines it should print, with a count of each kind of case.
 
-use crate::session::{Row, ROWS};
+use crate::session::{Row, LINES, ROWS};
 use std::collections::BTreeMap;
 
 #[derive(Default)]
@@ -10,6 +10,7 @@ pub struct Book {
     kinds: BTreeMap<String, usize>,
     pub numbers: BTreeMap<u32, usize>,
     pub rows: BTreeMap<Row, usize>,
+    pub broken: BTreeMap<&'static str, usize>,
 }
 
 pub fn hex(bytes: &[u8]) -> String {
@@ -76,6 +77,11 @@ impl Book {
         *self.rows.entry(row).or_default() += 1;
     }
 
+    /// One more state that breaks this line of the session's list and no other.
+    pub fn broken_alone(&mut self, line: &'static str) {
+        *self.broken.entry(line).or_default() += 1;
+    }
+
     pub fn refused<T>(&mut self, result: &Result<T, u32>) {
         if let Err(number) = result {
             self.number(*number);
@@ -109,6 +115,11 @@ pub fn counts(books: &[(&str, Book)]) -> String {
     for (row, says) in ROWS {
         let events: usize = books.iter().filter_map(|(_, book)| book.rows.get(row)).sum();
         page += &format!("| {says} | {events} |\n");
+    }
+    page += "\n| line of the session's list, broken by hand and alone | states |\n|---|---|\n";
+    for (line, _) in LINES {
+        let states: usize = books.iter().filter_map(|(_, book)| book.broken.get(line)).sum();
+        page += &format!("| {line} | {states} |\n");
     }
     page
 }

@@ -75,11 +75,12 @@ mod tests {
     }
 
     #[test]
-    fn every_number_and_row_is_reached() {
+    fn every_number_row_and_line_is_reached() {
         for (name, book) in all_books() {
             assert_eq!(book.numbers.into_keys().collect::<Vec<_>>(), expected(name), "{name}");
             assert!(book.stdin.len() < MOST_LINES, "{name}");
-            assert_eq!(book.rows.len(), if name == "sessions" { session::ROWS.len() } else { 0 }, "{name}");
+            let (rows, lines) = if name == "sessions" { (session::ROWS.len(), session::LINES.len()) } else { (0, 0) };
+            assert_eq!((book.rows.len(), book.broken.len()), (rows, lines), "{name}");
         }
     }
 }

@@ -3,7 +3,9 @@
 use crate::frames::{frame, Header};
 use crate::items::{item, B};
 use crate::reader::number_of;
+use std::collections::BTreeSet;
 use std::fmt::Write;
+use std::mem::replace;
 
 const MOST_DEVICE: u16 = 32_767;
 const NO_SESSION: u16 = 0xFFFF;
@@ -69,14 +71,37 @@ pub enum Phase {
     Selected,
 }
 
-#[derive(Clone, Copy)]
+/// By hand a slot that is not taken may hold anything.
+#[derive(Clone, Copy, PartialEq, Eq)]
 pub struct Slot {
+    pub taken: bool,
     pub system: u32,
     pub stream: u8,
     pub function: u8,
 }
 
-pub type Slots = [Option<Slot>; 32];
+pub const FREE: Slot = Slot { taken: false, system: 0, stream: 0, function: 0 };
+
+pub type Slots = [Slot; 32];
+
+/// By hand a linktest that does not run may have any system bytes.
+#[derive(Clone, Copy, PartialEq, Eq)]
+pub struct Linktest {
+    pub running: bool,
+    pub system: u32,
+}
+
+pub const CLOSED: Linktest = Linktest { running: false, system: 0 };
+
+/// What one part of a state becomes by hand.
+#[derive(Clone, Copy)]
+pub enum Change {
+    Next(u32),
+    Phase(Phase),
+    Linktest(Linktest),
+    Slot { own: bool, place: u8, slot: Slot },
+    Flag { stream: u8, set: bool },
+}
 
 #[derive(Clone)]
 pub enum Event {
@@ -119,25 +144,53 @@ fn reject(header: &Header, reason: u8, row: Row) -> Answer {
     sends(Header { byte2: header.stype, ..response(header, 7, reason) }, &[], row)
 }
 
+/// The taken slots, each with its place.
+fn taken(slots: &Slots) -> impl Iterator<Item = (usize, Slot)> + '_ {
+    slots.iter().copied().enumerate().filter(|(_, slot)| slot.taken)
+}
+
 /// The place of the slot with these system bytes, and the slot.
 fn holding(slots: &Slots, system: u32) -> Option<(usize, Slot)> {
-    let taken = |(place, slot): (usize, &Option<Slot>)| slot.map(|slot| (place, slot));
-    slots.iter().enumerate().filter_map(taken).find(|(_, slot)| slot.system == system)
+    taken(slots).find(|(_, slot)| slot.system == system)
 }
 
 fn free(slots: &Slots) -> Option<usize> {
-    slots.iter().position(Option::is_none)
+    slots.iter().position(|slot| !slot.taken)
+}
+
+fn shares_system_bytes(slots: &Slots) -> bool {
+    let different: BTreeSet<u32> = taken(slots).map(|(_, slot)| slot.system).collect();
+    different.len() < taken(slots).count()
 }
 
 fn is_primary(stream: u8, function: u8) -> bool {
     (1..=127).contains(&stream) && function % 2 == 1 && function != LAST_FUNCTION
 }
 
+/// A line of the list behind 14: what breaks it, in words and as a test.
+type Line = (&'static str, fn(&Session) -> bool);
+
+pub const LINES: [Line; 9] = [
+    ("a device ID above 32,767", |session| session.device > MOST_DEVICE),
+    ("a flag of stream 0", |session| session.flags[0]),
+    ("a free slot not all zero", |session| session.slots().any(|slot| !slot.taken && *slot != FREE)),
+    ("a taken slot not a primary's", |session| session.slots().any(|slot| slot.taken && !is_primary(slot.stream, slot.function))),
+    ("two slots of a table with the same system bytes", |session| {
+        shares_system_bytes(&session.received) || shares_system_bytes(&session.own)
+    }),
+    ("a closed linktest not all zero", |session| !session.linktest.running && session.linktest != CLOSED),
+    ("a linktest with the system bytes of an own slot", |session| {
+        session.tested().is_some_and(|system| holding(&session.own, system).is_some())
+    }),
+    ("a linktest, not connected", |session| session.linktest.running && session.phase == Phase::NotConnected),
+    ("a taken slot, not selected", |session| session.phase != Phase::Selected && session.slots().any(|slot| slot.taken)),
+];
+
 pub struct Session {
     device: u16,
     pub phase: Phase,
     next: u32,
-    pub linktest: Option<u32>,
+    linktest: Linktest,
     pub received: Slots,
     pub own: Slots,
     flags: [bool; 128],
@@ -149,9 +202,9 @@ impl Session {
             device,
             phase: Phase::NotConnected,
             next: 1,
-            linktest: None,
-            received: [None; 32],
-            own: [None; 32],
+            linktest: CLOSED,
+            received: [FREE; 32],
+            own: [FREE; 32],
             flags: [false; 128],
         }
     }
@@ -165,6 +218,38 @@ impl Session {
         }
     }
 
+    fn slots(&self) -> impl Iterator<Item = &Slot> {
+        self.received.iter().chain(&self.own)
+    }
+
+    /// The system bytes of the own linktest, where one is open.
+    pub fn tested(&self) -> Option<u32> {
+        self.linktest.running.then_some(self.linktest.system)
+    }
+
+    /// The lines of the list that the state breaks.
+    pub fn broken(&self) -> Vec<&'static str> {
+        LINES.iter().filter(|(_, breaks)| breaks(self)).map(|(line, _)| *line).collect()
+    }
+
+    /// Changes one part, and answers the change that puts it back.
+    pub fn change(&mut self, change: Change) -> Change {
+        match change {
+            Change::Next(next) => Change::Next(replace(&mut self.next, next)),
+            Change::Phase(phase) => Change::Phase(replace(&mut self.phase, phase)),
+            Change::Linktest(linktest) => Change::Linktest(replace(&mut self.linktest, linktest)),
+            Change::Slot { own, place, slot } => {
+                let slots = if own { &mut self.own } else { &mut self.received };
+                let before = slots.get_mut(usize::from(place)).map_or(slot, |at| replace(at, slot));
+                Change::Slot { own, place, slot: before }
+            }
+            Change::Flag { stream, set } => {
+                let before = self.flags.get_mut(usize::from(stream)).map_or(set, |at| replace(at, set));
+                Change::Flag { stream, set: before }
+            }
+        }
+    }
+
     pub fn step(&mut self, event: &Event) -> Answer {
         self.refusal(event).map_or_else(|| self.accepted(event), |number| quiet(number, Row::Refused))
     }
@@ -172,19 +257,19 @@ impl Session {
     fn refusal(&self, event: &Event) -> Option<u32> {
         let connected = self.phase != Phase::NotConnected;
         let timer = |running: bool| (!running).then_some(27);
-        if self.device > MOST_DEVICE {
+        if !self.broken().is_empty() {
             return Some(14);
         }
         match event {
             Event::Connect => connected.then_some(21),
             Event::Flag { stream, .. } => (!is_primary(*stream, 1)).then_some(23),
             Event::T3 { system } => timer(holding(&self.own, *system).is_some()),
-            Event::T6 => timer(self.linktest.is_some()),
+            Event::T6 => timer(self.linktest.running),
             Event::T7 => timer(self.phase == Phase::NotSelected),
             Event::T8 => timer(connected),
             _ if !connected => Some(20),
             Event::Received { .. } | Event::Disconnect => None,
-            Event::Linktest => self.linktest.map(|_| 26),
+            Event::Linktest => self.linktest.running.then_some(26),
             _ if self.phase != Phase::Selected => Some(22),
             Event::Separate => None,
             Event::Primary { w, stream, function, text } => text_refusal(text)
@@ -223,7 +308,7 @@ impl Session {
     /// A fresh number.
     fn fresh(&mut self) -> u32 {
         let mut number = self.next;
-        while holding(&self.own, number).is_some() || self.linktest == Some(number) {
+        while holding(&self.own, number).is_some() || self.tested() == Some(number) {
             number = number.wrapping_add(1);
         }
         self.next = number.wrapping_add(1);
@@ -232,8 +317,8 @@ impl Session {
 
     fn deselect(&mut self) {
         self.phase = Phase::NotSelected;
-        self.received = [None; 32];
-        self.own = [None; 32];
+        self.received = [FREE; 32];
+        self.own = [FREE; 32];
     }
 
     fn connect(&mut self) -> Answer {
@@ -244,14 +329,14 @@ impl Session {
     fn leave(&mut self, row: Row) -> Answer {
         self.deselect();
         self.phase = Phase::NotConnected;
-        self.linktest = None;
+        self.linktest = CLOSED;
         quiet(0, row)
     }
 
     fn send(&mut self, w: bool, stream: u8, function: u8, text: &[u8]) -> Answer {
         let system = self.fresh();
         if let (true, Some(place)) = (w, free(&self.own)) {
-            self.own[place] = Some(Slot { system, stream, function });
+            self.own[place] = Slot { taken: true, system, stream, function };
         }
         let row = if w { Row::SendW } else { Row::SendNoW };
         sends(Header::data(self.device, w, stream, function, system), text, row)
@@ -259,13 +344,13 @@ impl Session {
 
     fn answer_slot(&mut self, system: u32, function: fn(Slot) -> u8, text: &[u8], row: Row) -> Answer {
         let (place, slot) = holding(&self.received, system).expect("25 was asked");
-        self.received[place] = None;
+        self.received[place] = FREE;
         sends(Header::data(self.device, false, slot.stream, function(slot), system), text, row)
     }
 
     fn test_link(&mut self) -> Answer {
         let system = self.fresh();
-        self.linktest = Some(system);
+        self.linktest = Linktest { running: true, system };
         sends(Header::control(NO_SESSION, 5, 0, system), &[], Row::Linktest)
     }
 
@@ -279,7 +364,7 @@ impl Session {
         let (place, slot) = holding(&self.own, system).expect("27 was asked");
         let header = Header::data(self.device, true, slot.stream, slot.function, system);
         let answer = self.s9(9, &header, Row::T3);
-        self.own[place] = None;
+        self.own[place] = FREE;
         answer
     }
 
@@ -307,8 +392,8 @@ impl Session {
             3 => sends(response(header, 4, 1), &[], Row::DeselectAgain),
             5 => sends(response(header, 6, 0), &[], Row::LinktestReq),
             2 | 4 => reject(header, 3, Row::Response),
-            6 if self.linktest == Some(header.system) => {
-                self.linktest = None;
+            6 if self.tested() == Some(header.system) => {
+                self.linktest = CLOSED;
                 quiet(0, Row::LinktestRsp)
             }
             6 => reject(header, 3, Row::LinktestRspOther),
@@ -323,10 +408,10 @@ impl Session {
 
     fn rejected(&mut self, system: u32) -> Answer {
         if let Some((place, _)) = holding(&self.own, system) {
-            self.own[place] = None;
+            self.own[place] = FREE;
             quiet(34, Row::RejectOwn)
-        } else if self.linktest == Some(system) {
-            self.linktest = None;
+        } else if self.tested() == Some(system) {
+            self.linktest = CLOSED;
             quiet(34, Row::RejectLinktest)
         } else {
             quiet(35, Row::RejectNothing)
@@ -352,13 +437,13 @@ impl Session {
     }
 
     fn secondary(&mut self, header: &Header) -> Answer {
-        let answers = |slot: Slot| {
+        let answers = |slot: &Slot| {
             let function = header.byte3 == 0 || header.byte3 == slot.function + 1;
             slot.system == header.system && slot.stream == header.stream() && function
         };
-        match self.own.iter().position(|slot| slot.is_some_and(answers)) {
+        match self.own.iter().position(|slot| slot.taken && answers(slot)) {
             Some(place) if !header.w() => {
-                self.own[place] = None;
+                self.own[place] = FREE;
                 quiet(31, Row::SecondaryDelivered)
             }
             _ => quiet(32, Row::SecondaryDropped),
@@ -378,7 +463,7 @@ impl Session {
         } else if holding(&self.received, system).is_some() {
             quiet(33, Row::Duplicate)
         } else if let Some(place) = free(&self.received) {
-            self.received[place] = Some(Slot { system, stream, function });
+            self.received[place] = Slot { taken: true, system, stream, function };
             quiet(30, Row::PrimaryW)
         } else {
             sends(Header::data(self.device, false, stream, 0, system), &[], Row::NoSlot)
@@ -394,14 +479,12 @@ impl Session {
         };
         let mut line = format!("{phase}\t{}", self.next);
         let mut add = |field: std::fmt::Arguments| line.write_fmt(field).expect("a string takes all");
-        if let Some(system) = self.linktest {
+        if let Some(system) = self.tested() {
             add(format_args!("\tlinktest\t{system}"));
         }
         for (name, slots) in [("received", &self.received), ("own", &self.own)] {
-            for (place, slot) in slots.iter().enumerate() {
-                if let Some(Slot { system, stream, function }) = slot {
-                    add(format_args!("\t{name}\t{place}\t{system}\t{stream}\t{function}"));
-                }
+            for (place, Slot { system, stream, function, .. }) in taken(slots) {
+                add(format_args!("\t{name}\t{place}\t{system}\t{stream}\t{function}"));
             }
         }
         add(format_args!("\tflags"));
@@ -414,4 +497,147 @@ impl Session {
 
 fn text_refusal(text: &[u8]) -> Option<u32> {
     Some(number_of(text)).filter(|&number| number != 0)
+}
+
+#[cfg(test)]
+mod tests {
+    use super::*;
+
+    const NONE: [&str; 0] = [];
+
+    fn slot(system: u32, stream: u8, function: u8) -> Slot {
+        Slot { taken: true, system, stream, function }
+    }
+
+    fn received_slot(place: u8, slot: Slot) -> Change {
+        Change::Slot { own: false, place, slot }
+    }
+
+    fn own_slot(place: u8, slot: Slot) -> Change {
+        Change::Slot { own: true, place, slot }
+    }
+
+    fn linktest(running: bool, system: u32) -> Change {
+        Change::Linktest(Linktest { running, system })
+    }
+
+    fn flag(stream: u8) -> Change {
+        Change::Flag { stream, set: true }
+    }
+
+    /// A selected session of these parts.
+    fn of(parts: &[Change]) -> Session {
+        let mut session = Session::new(MOST_DEVICE);
+        session.change(Change::Phase(Phase::Selected));
+        for part in parts {
+            session.change(*part);
+        }
+        session
+    }
+
+    fn busy() -> Session {
+        of(&[own_slot(0, slot(1, 1, 1)), linktest(true, 2), received_slot(0, slot(40, 1, 1))])
+    }
+
+    fn breaks(mut session: Session, change: Change, lines: &[&str]) {
+        assert_eq!(session.broken(), NONE);
+        let allowed = session.line();
+        let back = session.change(change);
+        assert_eq!(session.broken(), lines);
+        let line = session.line();
+        for event in [Event::T8, Event::Connect, Event::Flag { stream: 1, set: true }] {
+            let answer = session.step(&event);
+            assert_eq!((answer.number, answer.sent, session.line()), (14, None, line.clone()));
+        }
+        session.change(back);
+        assert_eq!((session.broken(), session.line()), (vec![], allowed));
+        assert_ne!(session.step(&Event::T8).number, 14);
+    }
+
+    #[test]
+    fn each_line_of_the_list_is_broken_alone() {
+        assert_eq!(Session::new(MOST_DEVICE).broken(), NONE);
+        assert_eq!(Session::new(MOST_DEVICE + 1).broken(), [LINES[0].0]);
+        let free = |system: u32, stream: u8, function: u8| Slot { taken: false, ..slot(system, stream, function) };
+        let changes = [
+            (1, flag(0)),
+            (2, received_slot(31, free(1, 0, 0))),
+            (2, own_slot(1, free(0, 1, 0))),
+            (2, own_slot(0, free(0, 0, 1))),
+            (3, received_slot(1, slot(5, 0, 1))),
+            (3, own_slot(1, slot(5, 128, 1))),
+            (3, received_slot(1, slot(5, 1, 2))),
+            (3, own_slot(31, slot(5, 1, 255))),
+            (4, received_slot(31, slot(40, 2, 3))),
+            (4, own_slot(31, slot(1, 2, 3))),
+            (5, linktest(false, 2)),
+            (6, linktest(true, 1)),
+            (6, own_slot(31, slot(2, 1, 1))),
+            (8, Change::Phase(Phase::NotSelected)),
+        ];
+        for (line, change) in changes {
+            breaks(busy(), change, &[LINES[line].0]);
+        }
+        breaks(Session::new(0), linktest(true, 1), &[LINES[7].0]);
+        breaks(Session::new(0), own_slot(0, slot(1, 1, 1)), &[LINES[8].0]);
+        breaks(busy(), Change::Phase(Phase::NotConnected), &[LINES[7].0, LINES[8].0]);
+    }
+
+    #[test]
+    fn near_misses_are_allowed() {
+        let changes = [
+            flag(127),
+            flag(128),
+            received_slot(31, slot(0, 127, 253)),
+            own_slot(31, slot(0, 127, 253)),
+            received_slot(1, slot(1, 1, 1)),
+            received_slot(32, slot(40, 0, 0)),
+            own_slot(255, slot(1, 0, 0)),
+            linktest(true, 40),
+            linktest(true, 0),
+            Change::Next(0),
+            Change::Next(u32::MAX),
+        ];
+        for change in changes {
+            let mut session = busy();
+            session.change(change);
+            assert_eq!(session.broken(), NONE);
+        }
+    }
+
+    #[test]
+    fn fresh_numbers_wrap_and_skip_those_held() {
+        let last = u32::MAX;
+        let cases: [(&[u32], Option<u32>, u32, u32); 8] = [
+            (&[], None, 0, 0),
+            (&[], None, last, last),
+            (&[last], None, last, 0),
+            (&[0, last], Some(1), last, 2),
+            (&[last - 1], Some(last), last - 1, 0),
+            (&[6, 3, 5], Some(4), 3, 7),
+            (&[1, 2, 4], None, 1, 3),
+            (&[1, 2], Some(4), 3, 3),
+        ];
+        for (held, tested, next, fresh) in cases {
+            let mut session = of(&[Change::Next(next), received_slot(0, slot(fresh, 1, 1))]);
+            for (place, system) in held.iter().enumerate() {
+                session.own[place] = slot(*system, 1, 1);
+            }
+            session.linktest = tested.map_or(CLOSED, |system| Linktest { running: true, system });
+            assert_eq!((session.fresh(), session.next), (fresh, fresh.wrapping_add(1)));
+        }
+    }
+
+    #[test]
+    fn the_34th_number_is_fresh_where_33_in_a_row_are_held() {
+        for first in [1, u32::MAX - 40, u32::MAX - 32, u32::MAX - 31, u32::MAX - 7, u32::MAX] {
+            let mut session = of(&[Change::Next(first)]);
+            for _ in 0..32 {
+                session.send(true, 1, 1, &[]);
+            }
+            session.test_link();
+            session.next = first;
+            assert_eq!((session.broken(), session.fresh()), (vec![], first.wrapping_add(33)));
+        }
+    }
 }

@@ -1,4 +1,6 @@
-//! Sessions: each row of the table, each number, long runs.
+//! Sessions: each row of the table, each number, long runs, states changed by hand.
+
+mod by_hand;
 
 use crate::book::{hex, Book};
 use crate::frames::Header;
@@ -39,6 +41,7 @@ pub fn make() -> Book {
     sessions.emptied();
     sessions.timers();
     sessions.random_runs();
+    sessions.changed_by_hand();
     sessions.book.bad_records(&["m 00", "r 000000000000000000", "w 00 00 00 00 00 000000", "t 03 000000", "e", "w 0"]);
     sessions.book
 }
@@ -561,7 +564,7 @@ impl Sessions {
 
     fn random_control(&mut self) -> Event {
         let system = self.some_system(self.session.own);
-        let tested = self.session.linktest.unwrap_or(system);
+        let tested = self.session.tested().unwrap_or(system);
         let ptype = u8::from(self.random.percent(10));
         let (stype, system) =
             self.random.pick(&[(1, system), (2, system), (4, 9), (5, 9), (6, tested), (6, 9), (7, system), (7, tested), (8, 9)]);
@@ -575,8 +578,9 @@ impl Sessions {
         let random = &mut self.random;
         let session = if random.percent(95) { DEVICE } else { 7 };
         let header = match own {
-            Some(Slot { system, stream, function }) => {
-                let function = random.pick(&[function + 1, function + 1, 0, 4]);
+            Some(Slot { system, stream, function, .. }) => {
+                let answering = function.wrapping_add(1);
+                let function = random.pick(&[answering, answering, 0, 4]);
                 Header::data(session, random.percent(10), stream, function, system)
             }
             None => {
@@ -593,7 +597,7 @@ impl Sessions {
     }
 
     fn some_slot(&mut self, slots: Slots) -> Option<Slot> {
-        let taken: Vec<Slot> = slots.into_iter().flatten().collect();
+        let taken: Vec<Slot> = slots.into_iter().filter(|slot| slot.taken).collect();
         (!taken.is_empty() && self.random.percent(85)).then(|| self.random.pick(&taken))
     }
 
