@@ -1,3 +1,5 @@
 pub mod Grammar
 pub mod Sizes
 pub mod Exist
+pub mod Tests
+pub mod Determined

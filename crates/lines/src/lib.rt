@@ -2,7 +2,7 @@ ghost use Prim.Native.Nat.{_+_, _*_, _≤_};
 ghost use mathlib.Core.Path.{_≡_};
 ghost use lib.ListN.{length};
 ghost use lib.Seq.{sets};
-ghost use Rattle.lines.specs.Text.{numberField, nameField, fields, lineOf, messageLine, itemLine, refusalLine, endLine, lineText};
+ghost use Rattle.lines.specs.Text.{numberField, nameField, fields, lineOf, messageLine, itemLine, lineText};
 use frame::Header;
 
 // A line of the listing, or none: M with a header and the text's length; I with a depth, a code and a length; X with a number and bytes; E with frames and bytes.
@@ -83,8 +83,7 @@ fn put_item(out: &mut [u8], at: usize, depth: usize, code: u32, size: usize) -> 
     put(out, d, b"\n")
 }
 
-// ---- the lines of a message, a refusal and the end
-
+// The line of a message.
 fn put_message(out: &mut [u8], at: usize, h: Header, n: usize) -> usize
     requires { ⌜ at + 149 ≤ length (now out) ⌝ }
     ensures { λ r. ⌜ (r ≡ at + length (messageLine h n)) × (now (out .exit) ≡ sets (now (out .entry)) at (messageLine h n)) ⌝ }
@@ -105,20 +104,6 @@ fn put_message(out: &mut [u8], at: usize, h: Header, n: usize) -> usize
     )
 }
 
-fn put_refusal(out: &mut [u8], at: usize, number: u32, bytes: u64) -> usize
-    requires { ⌜ at + 44 ≤ length (now out) ⌝ }
-    ensures { λ r. ⌜ (r ≡ at + length (refusalLine number bytes)) × (now (out .exit) ≡ sets (now (out .entry)) at (refusalLine number bytes)) ⌝ }
-{
-    put_line(out, at, b'X', &[number as u64, bytes])
-}
-
-fn put_end(out: &mut [u8], at: usize, frames: u64, bytes: u64) -> usize
-    requires { ⌜ at + 44 ≤ length (now out) ⌝ }
-    ensures { λ r. ⌜ (r ≡ at + length (endLine frames bytes)) × (now (out .exit) ≡ sets (now (out .entry)) at (endLine frames bytes)) ⌝ }
-{
-    put_line(out, at, b'E', &[frames, bytes])
-}
-
 // Puts a line at the start of the output, and answers how many bytes it has.
 pub fn print(line: Line, out: &mut [u8; 160]) -> usize
     ensures { λ r. ⌜ (r ≡ length (lineText line)) × (now (out .exit) ≡ sets (now (out .entry)) 0 (lineText line)) ⌝ }
@@ -127,7 +112,7 @@ pub fn print(line: Line, out: &mut [u8; 160]) -> usize
         Line::Nothing => 0,
         Line::Message(h, n) => put_message(out, 0, h, n),
         Line::Item(depth, code, size) => put_item(out, 0, depth, code, size),
-        Line::Refusal(number, bytes) => put_refusal(out, 0, number, bytes),
-        Line::End(frames, bytes) => put_end(out, 0, frames, bytes),
+        Line::Refusal(number, bytes) => put_line(out, 0, b'X', &[number as u64, bytes]),
+        Line::End(frames, bytes) => put_line(out, 0, b'E', &[frames, bytes]),
     }
 }

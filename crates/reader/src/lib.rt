@@ -2,11 +2,10 @@ ghost use mathlib.Core.Path.{_≡_};
 ghost use mathlib.Core.Bool.{true};
 ghost use Prim.Native.Nat.{_+_, _*_, _-_, _^_, _≤_, _<_};
 ghost use Rattle.levels.specs.Levels.{stack, Clean};
-ghost use Rattle.follow.specs.Fits.{fitsItems, fitsList, fitsPlain, fitsLengths};
 ghost use Rattle.reader.specs.State.{state, refused, fresh, stateOf, readerIn, readerOf};
 ghost use Rattle.reader.specs.Step.{known, whole, atFormat, atList, atPlain, atLength, atContent, step};
 ghost use Rattle.reader.specs.Feed.{isPlain, allowsPhase, allowsFrame, allowsEnd, allows, status, eat, fedOf};
-ghost use Rattle.reader.specs.Asked.{Few, Weight, Spot, Ready};
+ghost use Rattle.reader.specs.Asked.{Spot, Ready};
 ghost use Rattle.item.specs.Code.{kindOf};
 use item::Kind;
 use levels::Levels;
@@ -49,76 +48,6 @@ pub struct Fed {
     pub answer: Answer,
     pub consumed: usize,
     pub reader: Reader,
-}
-
-// Whether m items, and nothing else, may fill exactly n bytes.
-fn fits_items(n: usize, m: usize) -> bool
-    ensures { λ r. ⌜ r ≡ fitsItems n m ⌝ }
-{
-    if m == 0 { n == 0 } else { m <= n / 2 }
-}
-
-// 256 to the power j.
-fn weight(j: usize) -> usize
-    requires { ⌜ j ≤ 3 ⌝ }
-    ensures { λ r. ⌜ Weight j r ⌝ }
-{
-    match j {
-        0 => 1,
-        1 => 0x100,
-        2 => 0x1_0000,
-        _ => 0x100_0000,
-    }
-}
-
-fn fits_list(d: usize, n: usize, m: usize, j: usize, v: usize) -> bool
-    requires { ⌜ Few m j v ⌝ }
-    ensures { λ r. ⌜ r ≡ fitsList d n m j v ⌝ }
-{
-    if n < j {
-        return false;
-    }
-    let left = n - j;
-    if d == 16 {
-        if v == 0 {
-            return fits_items(left, m);
-        }
-        return false;
-    }
-    if m + v == 0 {
-        return left != 1;
-    }
-    2 * (m + v * weight(j)) <= left
-}
-
-fn fits_plain(c: u32, n: usize, m: usize, j: usize, v: usize) -> bool
-    requires { ⌜ Few m j v ⌝ }
-    ensures { λ r. ⌜ r ≡ fitsPlain c n m j v ⌝ }
-{
-    let p = weight(j);
-    let low = v * p;
-    if n < j + low + 2 * m {
-        return false;
-    }
-    if m == 0 {
-        if n - j < low + p {
-            return item::is_allowed(c, n - j);
-        }
-        return false;
-    }
-    true
-}
-
-// Whether anything may follow with j length bytes to come, behind those that say v.
-fn fits_lengths(c: u32, d: usize, n: usize, m: usize, j: usize, v: usize) -> bool
-    requires { ⌜ Few m j v ⌝ }
-    ensures { λ r. ⌜ r ≡ fitsLengths c d n m j v ⌝ }
-{
-    if c == 0 {
-        fits_list(d, n, m, j, v)
-    } else {
-        fits_plain(c, n, m, j, v)
-    }
 }
 
 fn is_known(c: u32) -> bool
@@ -182,7 +111,7 @@ fn at_format(n: usize, k: usize, l: Levels, b: u8) -> Reader
         }
         let d = l.level;
         let low = levels::begun(l);
-        if fits_lengths(c, d, n - k, levels::sum(low), j, 0) {
+        if follow::fits_lengths(c, d, n - k, levels::sum(low), j, 0) {
             return reader_in(
                 n,
                 k,
@@ -206,7 +135,7 @@ fn at_list(n: usize, k: usize, l: Levels, v: usize) -> Reader
 {
     let m = levels::sum(l);
     if v == 0 {
-        if fits_items(n - k, m) {
+        if follow::fits_items(n - k, m) {
             return whole_item(n, k, l);
         }
         return refusal(n, 5);
@@ -215,7 +144,7 @@ fn at_list(n: usize, k: usize, l: Levels, v: usize) -> Reader
     if depth == 16 {
         return refusal(n, 4);
     }
-    if fits_items(n - k, m + v) {
+    if follow::fits_items(n - k, m + v) {
         return reader_in(n, k, levels::opened(l, v as u32), Phase::Format);
     }
     refusal(n, 5)
@@ -228,7 +157,7 @@ fn at_plain(n: usize, k: usize, l: Levels, c: u32, v: usize) -> Reader
     let left = n - k;
     if item::is_allowed(c, v) {
         if v <= left {
-            if fits_items(left - v, levels::sum(l)) {
+            if follow::fits_items(left - v, levels::sum(l)) {
                 return content_from(n, k, l, c, v);
             }
         }
@@ -251,12 +180,12 @@ fn content_from(n: usize, k: usize, l: Levels, c: u32, v: usize) -> Reader
 
 fn at_length(n: usize, k: usize, l: Levels, c: u32, j: usize, v: usize) -> Reader
     requires { ⌜ Spot n k l ⌝ }
-    requires { ⌜ (j ≤ 3) × (v < 256 ^ 3) ⌝ }
+    requires { ⌜ v < 256 ^ 3 ⌝ }
     ensures { λ r. ⌜ r ≡ readerOf (atLength n k (stack l) c j v) ⌝ }
 {
     if 0 < j {
         let d = l.level;
-        if fits_lengths(c, d, n - k, levels::sum(l), j, v) {
+        if follow::fits_lengths(c, d, n - k, levels::sum(l), j, v) {
             return reader_in(
                 n,
                 k,
@@ -349,10 +278,10 @@ fn allows_format(n: usize, l: Levels) -> bool
 {
     let d = l.level;
     if d == 0 {
-        return fits_items(n, levels::sum(l));
+        return follow::fits_items(n, levels::sum(l));
     }
     if 0 < levels::top(l) {
-        return fits_items(n, levels::sum(l));
+        return follow::fits_items(n, levels::sum(l));
     }
     false
 }
@@ -372,8 +301,8 @@ fn allows_length(c: u32, j: usize, v: usize, n: usize, l: Levels) -> bool
         if 3 < j {
             return false;
         }
-        if v < weight(3 - j) {
-            return fits_lengths(c, d, n, levels::sum(l), j, v);
+        if follow::high_part(v, 3 - j) == 0 {
+            return follow::fits_lengths(c, d, n, levels::sum(l), j, v);
         }
     }
     false
@@ -392,7 +321,7 @@ fn allows_content(c: u32, left: usize, n: usize, l: Levels) -> bool
             return false;
         }
         if left <= n {
-            return fits_items(n - left, levels::sum(l));
+            return follow::fits_items(n - left, levels::sum(l));
         }
     }
     false

@@ -10,7 +10,7 @@ use native.Mathlib.Omega.{arith}
 use borrow.Author.Tests.{eq-eqb, eqb-true}
 use lib.Dec.{eqb}
 use lib.ListN.{length, getD, drop, set, drop-of-length-le}
-use lib.Seq.{drop-cons, getD-set-same, set-out}
+use lib.Seq.{drop-cons, set-out}
 use Rattle.wire.proofs.Choice.{both}
 use Rattle.slots.specs.Slots.{free, noSlots, passes, foundAt}
 use Rattle.slots.specs.declared.Slot.{Slot}
@@ -102,9 +102,6 @@ unfolding passes
 taken-named n s e w = rw (e, eq-eqb (s .system) n w)
 
 -- ---- another slot is stored
-
-pub stored-found : (q : Query) (l : List Slot) (at : ℕ) (x : Slot) → at < length l → passes q x ≡ true → foundAt q (set l at x) ≤ at
-stored-found q l at x h e = found-least q (set l at x) at (ap (passes q) (getD-set-same l at x free h) ∙ e)
 
 module _ (q : Query) (x : Slot) (e : passes q x ≡ false) where
   first-step : (b : Bool) (n : ℕ) → (0 ≡ cond b 0 (suc n) → ⊥) → suc n ≡ cond b 0 (suc n)

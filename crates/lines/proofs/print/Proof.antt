@@ -1,7 +1,7 @@
 -- Each arm puts the line that the definition says of it.
 use mathlib.Core.Path.{ap}
 use borrow.Author.Needs.{needs}
-use Rattle.lines.specs.Text.{lineText}
+use Rattle.lines.specs.Text.{refusalLine, endLine, lineText}
 use Rattle.lines.proofs.Stored.{stored, first-as}
 use Rattle.lines.proofs.print.Statement.{statement}
 use Rattle.lines.proofs.print.Tie as tie
@@ -24,14 +24,23 @@ put-item-requires c κs = search needs
 enum-known-line-3 : tie.Need-enum-known-line-3
 enum-known-line-3 c = search needs
 
-put-refusal-requires : tie.Need-put-refusal-requires
-put-refusal-requires c κs = search needs
+cast-t20 : tie.Need-cast-t20
+cast-t20 c = search needs
+
+slice-aggregate-put-line : tie.Need-slice-aggregate-put-line
+slice-aggregate-put-line c = search needs
+
+put-line-requires : tie.Need-put-line-requires
+put-line-requires c κs = search needs
 
 enum-known-line-4 : tie.Need-enum-known-line-4
 enum-known-line-4 c = search needs
 
-put-end-requires : tie.Need-put-end-requires
-put-end-requires c κs = search needs
+slice-aggregate-put-line-2 : tie.Need-slice-aggregate-put-line-2
+slice-aggregate-put-line-2 c = search needs
+
+put-line-requires-2 : tie.Need-put-line-requires-2
+put-line-requires-2 c κs = search needs
 
 returns : tie.Need-returns
 returns c = search needs
@@ -43,10 +52,12 @@ returns-3 : tie.Need-returns-3
 returns-3 c = first-as _ (ap lineText (c .before .before .before .line2 .given .1)) (stored (c .put-item .ensures))
 
 returns-4 : tie.Need-returns-4
-returns-4 c = first-as _ (ap lineText (c .before .before .before .line3 .given .1)) (stored (c .put-refusal .ensures))
+unfolding refusalLine
+returns-4 c = first-as _ (ap lineText (c .before .before .before .before .line3 .given .1)) (stored (c .put-line .ensures))
 
 returns-5 : tie.Need-returns-5
-returns-5 c = first-as _ (ap lineText (c .before .before .before .line4 .given .1)) (stored (c .put-end .ensures))
+unfolding endLine
+returns-5 c = first-as _ (ap lineText (c .before .before .before .before .line4 .given .1)) (stored (c .put-line2 .ensures))
 
 pub print-spec : {M : Type 1} → statement M
 print-spec =
@@ -58,9 +69,12 @@ print-spec =
     enum-known-line-2
     put-item-requires
     enum-known-line-3
-    put-refusal-requires
+    cast-t20
+    slice-aggregate-put-line
+    put-line-requires
     enum-known-line-4
-    put-end-requires
+    slice-aggregate-put-line-2
+    put-line-requires-2
     returns
     returns-2
     returns-3

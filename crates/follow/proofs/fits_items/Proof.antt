@@ -1,9 +1,9 @@
 -- With an item awaited, two bytes an item is the definition's test, by a quotient, which cannot overflow.
 use borrow.Author.Tests.{eq-eqb, ne-eqb}
 use Rattle.follow.specs.Fits.{fitsItems}
-use Rattle.reader.proofs.Tests.{halves}
-use Rattle.reader.proofs.fits_items.Statement.{statement}
-use Rattle.reader.proofs.fits_items.Tie as tie
+use Rattle.follow.proofs.Tests.{halves}
+use Rattle.follow.proofs.fits_items.Statement.{statement}
+use Rattle.follow.proofs.fits_items.Tie as tie
 
 returns : tie.Need-returns
 unfolding fitsItems

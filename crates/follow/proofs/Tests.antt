@@ -1,0 +1,60 @@
+-- The tests by quotients, which cannot overflow, are the definition's by products.
+use Prim.Native.Nat.{ℕ, suc, _+_, _*_, _-_, _/_, _^_, _≤_, _<_}
+use mathlib.Core.Path.{_≡_, refl, sym, ap, _∙_}
+use mathlib.Core.Bool.{Bool, true, false}
+use native.Mathlib.Nat.{one-le-pow, zero-lt-suc, pow-succ', div-div-eq-div-mul, le-div-iff-mul-le, div-lt-iff-lt-mul}
+use native.Mathlib.Omega.{arith}
+use borrow.Author.Tests.{le-leb, lt-leb, leb-true, leb-false, lt-ltb, le-ltb, ltb-true, ltb-false}
+use lib.Dec.{leb, ltb}
+
+-- two bytes an item
+pub halves : (n m : ℕ) → leb m (n / 2) ≡ leb (2 * m) n
+halves n m = go (leb (2 * m) n) refl
+  where
+    go : (b : Bool) → leb (2 * m) n ≡ b → leb m (n / 2) ≡ b
+    go true e = le-leb m (n / 2) (omega (arith, leb-true (2 * m) n e))
+    go false e = lt-leb m (n / 2) (omega (arith, leb-false (2 * m) n e))
+
+-- one byte more is left off
+pub part-more : (n k : ℕ) → n / 256 / 256 ^ k ≡ n / 256 ^ suc k
+part-more n k = div-div-eq-div-mul n 256 (256 ^ k) ∙ ap (λ (x : ℕ). n / x) (sym (pow-succ' 256 k))
+
+module _ (v j n : ℕ) where
+  some : 0 < 256 ^ j
+  some = one-le-pow j 256 (zero-lt-suc 255)
+
+  -- v with j more bytes, all zero, is at most n
+  pub at-most : v ≤ n / 256 ^ j → v * 256 ^ j ≤ n
+  at-most h = le-div-iff-mul-le some .0 h
+
+  pub above : n / 256 ^ j < v → n < v * 256 ^ j
+  above h = div-lt-iff-lt-mul some .0 h
+
+  -- with any j more bytes it is above n
+  pub beyond : n / 256 ^ j ≤ v → n < v * 256 ^ j + 256 ^ j
+  beyond h =
+      let w : n < suc v * 256 ^ j = div-lt-iff-lt-mul some .0 (omega (arith, h)) in
+      let e : suc v * 256 ^ j ≡ v * 256 ^ j + 256 ^ j = omega arith in
+      rw e at w
+
+  pub not-beyond : v < n / 256 ^ j → v * 256 ^ j + 256 ^ j ≤ n
+  not-beyond h =
+      let w : suc v * 256 ^ j ≤ n = le-div-iff-mul-le some .0 h in
+      let e : suc v * 256 ^ j ≡ v * 256 ^ j + 256 ^ j = omega arith in
+      rw e at w
+
+-- members and items behind them, two bytes each
+pub members : (left m v j : ℕ) → m ≤ left / 2 → leb v ((left / 2 - m) / 256 ^ j) ≡ leb (2 * (m + v * 256 ^ j)) left
+members left m v j h = go (leb v ((left / 2 - m) / 256 ^ j)) refl
+  where
+    go : (b : Bool) → leb v ((left / 2 - m) / 256 ^ j) ≡ b → b ≡ leb (2 * (m + v * 256 ^ j)) left
+    go true e = sym (le-leb (2 * (m + v * 256 ^ j)) left (omega (arith, h, at-most v j (left / 2 - m) (leb-true v ((left / 2 - m) / 256 ^ j) e))))
+    go false e = sym (lt-leb (2 * (m + v * 256 ^ j)) left (omega (arith, h, above v j (left / 2 - m) (leb-false v ((left / 2 - m) / 256 ^ j) e))))
+
+-- a number without its last k bytes is zero exactly where it has no more than k
+module _ (v k : ℕ) where
+  pub few-bytes : v / 256 ^ k ≡ 0 → ltb v (256 ^ k) ≡ true
+  few-bytes e = lt-ltb v (256 ^ k) (omega (arith, above 1 k v (omega (arith, e))))
+
+  pub more-bytes : (v / 256 ^ k ≡ 0 → ⊥) → ltb v (256 ^ k) ≡ false
+  more-bytes e = le-ltb v (256 ^ k) (omega (arith, at-most 1 k v (omega (arith, e))))
