@@ -1,5 +1,4 @@
 pub mod Digits
-pub mod Placed
 pub mod Numbered
 pub mod Fields
 pub mod Stored

@@ -6,10 +6,9 @@ use native.Mathlib.Omega.{arith}
 use lib.ListN.{length, take, drop, replicate, length-replicate}
 use lib.Seq.{sets, length-sets}
 use Rattle.wire.specs.Lent.{copied}
-use Rattle.wire.proofs.Stores.{sets-there}
+use Rattle.wire.proofs.Stores.{sets-there, placed-sets}
 use Rattle.lines.specs.Text.{lineText}
 use Rattle.lines.specs.declared.Line.{Line}
-use Rattle.lines.proofs.Placed.{placed-sets}
 use Rattle.lines.proofs.Short.{line-short}
 
 abbrev zeros : List ℕ

@@ -16,12 +16,13 @@ use Rattle.slots.specs.declared.Query.the-variants.{Taken, Named}
 use Rattle.slots.proofs.Found.{stored-none, no-slots-none, free-not-taken, free-not-named}
 use Rattle.fresh.proofs.Fresh.{one-more-is, fresh-free, fresh-small, not-in-own, not-in-test}
 use Rattle.listed.proofs.Allowed.{Allowed, no-slots-allowed, closed-allowed, opened-allowed}
+use Rattle.state.proofs.Phases.{unselected}
 use Rattle.state.specs.State.{isConnected, isSelected, withPhase, withTest, withReceived, withOwn, withFlag, receivedFreed, ownFreed, deselected, gone, fresh}
 use Rattle.state.specs.declared.Phase.{Phase}
 use Rattle.state.specs.declared.Phase.the-variants.{NotSelected, Selected}
 use Rattle.state.specs.declared.Session.{Session}
 use Rattle.table.specs.Table.{moved}
-use Rattle.reached.proofs.Kept.{Own, Phased, Kept, unselected}
+use Rattle.reached.proofs.Kept.{Own, Phased, Kept}
 
 -- what is in no slot is in none once a slot is stored that is not it
 none-stored : {l : List Slot} → Allowed l → (q : Query) (x : Slot) → passes q x ≡ false → (at : ℕ) → foundAt q l ≡ 32 → foundAt q (set l at x) ≡ 32

@@ -2,7 +2,7 @@
 use Prim.Native.Nat.{ℕ, _^_, _≤_, _<_}
 use mathlib.Core.Bool.{Bool, true, false, false≢true, not, cond}
 use mathlib.Core.List.{List}
-use mathlib.Core.Path.{_≡_, refl, sym}
+use mathlib.Core.Path.{_≡_, refl}
 use native.Mathlib.Omega.{arith}
 use borrow.Author.Tests.{le-leb, leb-true, le-ltb, ltb-false, eq-eqb, eqb-true, not-true}
 use lib.Dec.{eqb, leb}
@@ -19,7 +19,7 @@ use Rattle.listed.proofs.Allowed.{Allowed, facts-allow, allows-facts}
 use Rattle.state.specs.State.{connected, selected, isConnected, isSelected}
 use Rattle.listed.specs.Listed.{allowsDevice, allowsTest, testClosed, allowsPhase, allows}
 use Rattle.state.specs.declared.Phase.{Phase}
-use Rattle.state.specs.declared.Phase.the-variants.{NotConnected, NotSelected, Selected}
+use Rattle.state.proofs.Phases.{unselected}
 use Rattle.state.specs.declared.Session.{Session}
 use Rattle.listed.proofs.Listed.{listed, relisted}
 use Rattle.reached.specs.Reached.{Sized}
@@ -101,11 +101,6 @@ none-there q l size e = omega (arith, found-most q l, ltb-false (foundAt q l) 32
 neither : (a b : Bool) → cond a false b ≡ true → (a ≡ false) × (b ≡ true)
 neither true b e = absurd (false≢true e)
 neither false b e = (refl, e)
-
-pub unselected : (p : Phase) → isConnected p ≡ false → isSelected p ≡ false
-unselected NotConnected e = refl
-unselected NotSelected e = refl
-unselected Selected e = absurd (false≢true (sym e))
 
 module _ (s : Session) (sized : Sized s) where
   own-facts : allowsSlots (s .device .own) ≡ true → allowsTest s ≡ true → Own (s .device .own) (s .link .linktest) (s .link .next)

@@ -1,5 +1,5 @@
 -- The bytes cover the part that is lent for them.
-use Rattle.lines.proofs.Placed.{placed-sets}
+use Rattle.wire.proofs.Stores.{placed-sets}
 use borrow.Author.Needs.{needs}
 use Rattle.lines.proofs.put.Statement.{statement}
 use Rattle.lines.proofs.put.Tie as tie

@@ -1,15 +1,15 @@
 -- The tests are the definition's; where all are passed the frame covers the part that was lent for it.
 use borrow.Author.Needs.{needs}
 use Prim.Native.Nat.{ℕ, _+_, _-_, _≤_}
-use mathlib.Core.Path.{_≡_, refl, sym, ap, ap₂, _∙_}
+use mathlib.Core.Path.{_≡_, refl, sym, _∙_}
 use mathlib.Core.Bool.{true}
-use mathlib.Core.List.{List, _++_}
+use mathlib.Core.List.{List, _++_, append-assoc}
 use native.Mathlib.Omega.{arith}
 use borrow.Author.Tests.{eq-eqb, ne-eqb, le-leb, lt-leb, not-true, not-false}
-use lib.ListN.{length, take, drop, length-take, length-drop}
-use lib.Seq.{drop-drop}
+use lib.ListN.{length, take, drop}
+use lib.Seq.{sets-eq}
 use Rattle.wire.specs.Lent.{copied}
-use Rattle.wire.proofs.Stores.{copied-all}
+use Rattle.wire.proofs.Stores.{placed-sets}
 use Rattle.outbox.specs.Outbox.{holds, appendOf}
 use Rattle.outbox.proofs.Held.{held}
 use Rattle.outbox.proofs.append.Statement.{statement}
@@ -18,11 +18,7 @@ use Rattle.outbox.proofs.append.Tie as tie
 -- the frame behind the used bytes, when the part lent for it has come back
 placed : (s f x : List ℕ) (used : ℕ) → used + length f ≤ length s → x ≡ copied (take (used + length f - used) (drop used s)) f
     → take used s ++ (x ++ drop (used + length f - used) (drop used s)) ≡ take used s ++ (f ++ drop (used + length f) s)
-placed s f x used h e =
-    let size = used + length f - used in
-    let z : used + size ≡ used + length f = omega arith in
-    let c = copied-all (take size (drop used s)) f (omega (arith, length-take size (drop used s), length-drop used s)) in
-    ap₂ (λ (y t : List ℕ). take used s ++ (y ++ t)) (e ∙ c) (drop-drop size used s ∙ ap (λ (k : ℕ). drop k s) z)
+placed s f x used h e = placed-sets s f x used h e ∙ sets-eq f s used h ∙ append-assoc (take used s) f (drop (used + length f) s)
 
 -- the outbox holds whole frames
 whole : (c : tie.Else1) → holds (c .before .before .before .before .before .args .outbox .now) (c .before .before .before .before .before .args .used) ≡ true
