@@ -1,22 +1,19 @@
 -- What a byte gives, where it is known what the readers answered: each is its definition with that answer put in.
-use Prim.Native.Nat.{ℕ, _+_, _*_, _≤_}
+use Prim.Native.Nat.{ℕ, _+_, _*_}
 use mathlib.Core.Bool.{Bool, true, false, cond}
 use mathlib.Core.List.{[], _∷_}
 use mathlib.Core.Path.{_≡_, sym, ap, _∙_}
-use lib.Dec.{eqb, ltb}
-use lib.ListN.{length}
-use native.Mathlib.Omega.{arith}
 use borrow.Author.Tests.{eq-eqb, ne-eqb}
 use Rattle.frame.specs.declared.Header.{Header}
 use Rattle.frames.specs.Feed.{endOf, fedOf as frameFed}
 use Rattle.frames.specs.declared.Event.{Event}
 use Rattle.frames.specs.declared.Fed.{Fed as FrameFed}
-use Rattle.reader.specs.State.{state, refused, fresh, stateOf, readerOf}
-use Rattle.reader.proofs.Allowed.{state-reader}
-use Rattle.reader.specs.Feed.{status, fedOf}
+use Rattle.reader.specs.State.{fresh, readerOf}
+use Rattle.reader.proofs.Fresh.{fresh-status}
+use Rattle.reader.specs.Feed.{status, statusOf, fedOf}
 use Rattle.reader.specs.declared.Answer.{Answer}
 use Rattle.reader.specs.declared.Fed.{Fed}
-use Rattle.reader.specs.declared.Phase.the-variants.{Format, Length}
+use Rattle.reader.specs.declared.Phase.the-variants.{Length}
 use Rattle.reader.specs.declared.Reader.{Reader}
 use Rattle.lines.specs.declared.Line.the-variants.{Nothing, Message, Item}
 use Rattle.capture.specs.Capture.{told, behind, oneMore, withFrames, withText, byAnswer, byEvent, settledBy, itemAt, isData, textByte, headerCame, settled, fedByte, byteTold, endedBy, lastLine}
@@ -56,20 +53,9 @@ module _ (l : Lister) (h : Header) (n : ℕ) (t : Lister) where
   unfolding headerCame
   other-as d q = rw (d, q)
 
--- a fresh reader holds a fresh state
-fresh-shallow : (n : ℕ) → length (fresh n .stack) ≤ 16
-unfolding fresh
-fresh-shallow n = go (eqb n 0) (eqb n 1) (ltb 32000 n)
-  where
-    go : (a b c : Bool)
-        → length (cond a (state n 0 [] Format) (cond b (refused n 5) (cond c (refused n 5) (state n 0 (1 ∷ []) Format))) .stack) ≤ 16
-    go true b c = omega arith
-    go false true c = omega arith
-    go false false true = omega arith
-    go false false false = omega arith
-
-pub fresh-status : (n : ℕ) (r : Reader) (a : Answer) → r ≡ readerOf (fresh n) → a ≡ status (stateOf r) → a ≡ status (fresh n)
-fresh-status n r a e q = q ∙ ap (λ (x : Reader). status (stateOf x)) e ∙ ap status (state-reader (fresh n) (fresh-shallow n))
+-- a fresh reader answers the fresh state's status
+pub fresh-answer : (n : ℕ) (r : Reader) (a : Answer) → r ≡ readerOf (fresh n) → a ≡ statusOf r → a ≡ status (fresh n)
+fresh-answer n r a e q = q ∙ ap statusOf e ∙ fresh-status n
 
 -- ---- a byte
 

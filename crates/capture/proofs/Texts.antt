@@ -8,7 +8,7 @@ use lib.ListN.{length}
 use Rattle.levels.specs.Levels.{stackOf}
 use Rattle.reader.specs.State.{stateOf}
 use Rattle.reader.specs.Feed.{allows, status, fed, start, fedOf}
-use Rattle.reader.specs.Rest.{LiveAt}
+use Rattle.reader.proofs.Rest.{LiveAt}
 use Rattle.reader.specs.declared.Answer.{Answer}
 use Rattle.reader.specs.declared.Answer.the-variants.{More, Complete, Refusal}
 use Rattle.reader.specs.declared.Phase.{Phase}

@@ -9,6 +9,7 @@ use borrow.Author.Tests.{eq-eqb, ne-eqb, le-leb, lt-leb, eqb-true, leb-true}
 use lib.Dec.{eqb, leb}
 use lib.ListN.{length, take, drop}
 use lib.Seq.{take-at}
+use Rattle.wire.specs.Longest.{longest}
 use Rattle.wire.specs.Number.{AtMost}
 use Rattle.item.specs.Code.{L, kindOf}
 use Rattle.item.specs.Item.{Tree, good, lean, Content, Says, Good, Lean, meaningOf, leanOf}
@@ -29,8 +30,8 @@ use Rattle.writer.specs.Writing.{rowsNumber, tableNumber, usedOf, writtenOf, le
 use Rattle.wire.specs.Lent.{outAfter}
 use Rattle.writer.proofs.OneItem.{has-taken, taken-has}
 use Rattle.writer.proofs.Leaned.{tree-written}
-use Rattle.demand2.specs.Alike.{AllAlike}
 use Rattle.demand2.specs.Calls.{read, write, writeLean}
+use Rattle.demand2.specs.Back.{Part, Back}
 use Rattle.demand2.proofs.Alike.{tree-alike, alike-many}
 
 -- ---- rows and trees
@@ -49,27 +50,22 @@ module _ (table s out : List ℕ) (w : Tree) (whole : length table % 3 ≡ 0) (h
   used = tree-written table s (length out) w whole has
 
   -- Rows of a tree are written as its lean form, and the bytes used are that form's; 18 where it is above 32,000 bytes, then 17 where the output is shorter.
-  pub writes-lean : length (leanOf w) ≤ 32000 → length (leanOf w) ≤ length out → write table s out ≡ (Is (length (leanOf w)), leanOf w ++ drop (length (leanOf w)) out)
+  pub writes-lean : length (leanOf w) ≤ longest → length (leanOf w) ≤ length out → write table s out ≡ (Is (length (leanOf w)), leanOf w ++ drop (length (leanOf w)) out)
   writes-lean few room =
-      let e : writtenOf table s (length out) ≡ Is (length (leanOf w)) = used ∙ rw (le-leb (length (leanOf w)) 32000 few, le-leb (length (leanOf w)) (length out) room) in
+      let e : writtenOf table s (length out) ≡ Is (length (leanOf w)) = used ∙ rw (le-leb (length (leanOf w)) longest few, le-leb (length (leanOf w)) (length out) room) in
       rw (e, tree-text w s (rowsOf table) has)
 
-  pub too-long : 32000 < length (leanOf w) → write table s out ≡ (Refused 18, out)
+  pub too-long : longest < length (leanOf w) → write table s out ≡ (Refused 18, out)
   too-long many =
-      let e : writtenOf table s (length out) ≡ Refused 18 = used ∙ rw (lt-leb (length (leanOf w)) 32000 many) in
+      let e : writtenOf table s (length out) ≡ Refused 18 = used ∙ rw (lt-leb (length (leanOf w)) longest many) in
       rw e
 
-  pub too-short : length (leanOf w) ≤ 32000 → length out < length (leanOf w) → write table s out ≡ (Refused 17, out)
+  pub too-short : length (leanOf w) ≤ longest → length out < length (leanOf w) → write table s out ≡ (Refused 17, out)
   too-short few less =
-      let e : writtenOf table s (length out) ≡ Refused 17 = used ∙ rw (le-leb (length (leanOf w)) 32000 few, lt-leb (length (leanOf w)) (length out) less) in
+      let e : writtenOf table s (length out) ≡ Refused 17 = used ∙ rw (le-leb (length (leanOf w)) longest few, lt-leb (length (leanOf w)) (length out) less) in
       rw e
 
 -- ---- a row's content
-
--- of a list's row 9 and nothing; of another the content that the row names
-pub record Part (t : List ℕ) (r : Row) : Type 0 where
-  pub of-list : r .code ≡ L → (partNumber t r ≡ 9) × (partOf t r ≡ [])
-  pub of-other : (r .code ≡ L → ⊥) → (partNumber t r ≡ 0) × (partOf t r ≡ partAt t r)
 
 list-part : {t : List ℕ} (r : Row) → r .code ≡ L → Part t r
 unfolding partNumber partOf kindOf
@@ -124,7 +120,7 @@ module _ (t : List ℕ) (w : Tree) (s : Says good w t) where
   has-rows : Has t w (rowsOf (tableOf (rowsOfText w t s)))
   has-rows = rw (rows-table, ← rows-are) (text-has t w s)
 
-  short : length (leanOf w) ≤ 32000
+  short : length (leanOf w) ≤ longest
   short = omega (arith, laws.shortest t t w w s s refl, good-sound t w s .short)
 
   -- READ, THEN WRITE: the output is the lean form of the text, and the rest of it stays.
@@ -163,18 +159,18 @@ not-good t table out b h =
 record Answered (table s : List ℕ) (n : ℕ) : Type 0 where
   whole : length table % 3 ≡ 0
   taken : rowsNumber s (rowsOf table) ≡ 0
-  few : length (textOf s (rowsOf table)) ≤ 32000
+  few : length (textOf s (rowsOf table)) ≤ longest
   is : n ≡ length (textOf s (rowsOf table))
 
 answered : (table s : List ℕ) (room n : ℕ) → writtenOf table s room ≡ Is n → Answered table s n
 unfolding writtenOf tableNumber
-answered table s room n e = go (eqb (length table % 3) 0) refl (eqb (rowsNumber s (rowsOf table)) 0) refl (leb (length (textOf s (rowsOf table))) 32000) refl (leb (length (textOf s (rowsOf table))) room) e
+answered table s room n e = go (eqb (length table % 3) 0) refl (eqb (rowsNumber s (rowsOf table)) 0) refl (leb (length (textOf s (rowsOf table))) longest) refl (leb (length (textOf s (rowsOf table))) room) e
   where
     clash : (k : ℕ) → Refused k ≡ Is n → Answered table s n
     clash k q = let z : _≡_ {A = ℕ} 0 1 = cc in absurd (omega arith)
 
     go : (a : Bool) → eqb (length table % 3) 0 ≡ a → (b : Bool) → eqb (rowsNumber s (rowsOf table)) 0 ≡ b
-        → (c : Bool) → leb (length (textOf s (rowsOf table))) 32000 ≡ c → (d : Bool)
+        → (c : Bool) → leb (length (textOf s (rowsOf table))) longest ≡ c → (d : Bool)
         → cond (eqb (cond a (rowsNumber s (rowsOf table)) 15) 0) (cond c (cond d (Is (length (textOf s (rowsOf table)))) (Refused 17)) (Refused 18)) (Refused (cond a (rowsNumber s (rowsOf table)) 15)) ≡ Is n
         → Answered table s n
     go false f b g c h d q = clash 15 q
@@ -183,21 +179,7 @@ answered table s room n e = go (eqb (length table % 3) 0) refl (eqb (rowsNumber 
     go true f true g true h false q = clash 17 (rw g at q)
     go true f true g true h true q =
         let r = rw g at q in
-        record { whole = eqb-true (length table % 3) 0 f; taken = eqb-true (rowsNumber s (rowsOf table)) 0 g; few = leb-true (length (textOf s (rowsOf table))) 32000 h; is = cc }
-
--- What was written, n bytes of an output: rows that one tree has, and a lean text of that tree's meaning; what is read back from it are rows of that meaning.
-pub record Back (table s out : List ℕ) (n : ℕ) : Type 0 where
-  pub text : List ℕ
-  pub tree : Tree
-  pub has : Has s tree (rowsOf table)
-  pub used : n ≡ length text
-  pub output : write table s out .1 ≡ text ++ drop n out
-  pub is-lean : Says lean (meaningOf tree) text
-  pub is-good : Says good (meaningOf tree) text
-  pub rows : Has text (meaningOf tree) (rowsOfText (meaningOf tree) text is-good)
-  pub same-tree : meaningOf (meaningOf tree) ≡ meaningOf tree
-  pub same-rows : AllAlike s (rowsOf table) text (rowsOfText (meaningOf tree) text is-good)
-  pub as-many : length (rowsOf table) ≡ length (rowsOfText (meaningOf tree) text is-good)
+        record { whole = eqb-true (length table % 3) 0 f; taken = eqb-true (rowsNumber s (rowsOf table)) 0 g; few = leb-true (length (textOf s (rowsOf table))) longest h; is = cc }
 
 -- WRITE, THEN READ.
 pub write-then-read : (table s out : List ℕ) (n : ℕ) → write table s out .0 ≡ Is n → Back table s out n
@@ -229,7 +211,7 @@ write-then-read table s out n e =
 pub equal-texts : (t t′ : List ℕ) (w w′ : Tree) → Says good w t → Says good w′ t′ → (meaningOf w ≡ meaningOf w′) ↔ (leanOf w ≡ leanOf w′)
 equal-texts = laws.equal-meanings
 
-pub equal-rows : (s s′ : List ℕ) (rs rs′ : List Row) (w w′ : Tree) → Has s w rs → Has s′ w′ rs′ → length (textOf s rs) ≤ 32000 → length (textOf s′ rs′) ≤ 32000
+pub equal-rows : (s s′ : List ℕ) (rs rs′ : List Row) (w w′ : Tree) → Has s w rs → Has s′ w′ rs′ → length (textOf s rs) ≤ longest → length (textOf s′ rs′) ≤ longest
     → (meaningOf w ≡ meaningOf w′) ↔ (textOf s rs ≡ textOf s′ rs′)
 equal-rows s s′ rs rs′ w w′ h h′ few few′ =
     let e = tree-text w s rs h in

@@ -1,2 +1,4 @@
 pub mod Alike
 pub mod Calls
+pub mod Back
+pub mod Starred

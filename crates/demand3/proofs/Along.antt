@@ -9,20 +9,20 @@ use lib.Dec.{eqb, ltb}
 use lib.ListN.{length, getD, length-append}
 use lib.Seq.{getD-at}
 use borrow.Author.Tests.{eqb-true, eqb-false, ltb-true, ltb-false}
+use Rattle.wire.specs.Longest.{longest}
 use Rattle.item.specs.Item.{none, more, Tree, empty, one, good, Says, Good}
-use Rattle.levels.specs.Levels.{total}
 use Rattle.follow.proofs.Sizes.{item-size}
-use Rattle.follow.proofs.Exist.{awaited-of}
 use Rattle.reader.specs.State.{State, state, refused, fresh}
 use Rattle.reader.specs.Step.{step}
 use Rattle.reader.specs.Feed.{status}
 use Rattle.reader.specs.Place.{Role, contentByte, numberAt}
-use Rattle.reader.specs.Rest.{RestAt, Rest, LiveAt, Live}
+use Rattle.reader.proofs.Rest.{RestAt, Rest, LiveAt, Live}
 use Rattle.reader.specs.declared.Phase.{Phase}
 use Rattle.reader.specs.declared.Phase.the-variants.{Format}
 use Rattle.reader.specs.declared.Answer.the-variants.{More}
 use Rattle.reader.proofs.Right.{Out, goes, ends, Right, roleIn, step-right}
 use Rattle.reader.proofs.Eats.{more-left}
+use Rattle.reader.proofs.Fresh.{one-live}
 use Rattle.demand3.specs.Roles.{rolesOf}
 use Rattle.demand3.specs.Begins.{Begins, NumberBehind}
 use Rattle.demand3.proofs.Walk.{taken, Naive, there, gone, step-there, text-taken}
@@ -47,7 +47,7 @@ pub data Along (n : ℕ) (q : List ℕ) (s : State) : Type 0 where
 -- ---- before any byte
 
 -- what follows in a reader that awaits one item is a good text of n bytes
-start-good : (n : ℕ) (t : List ℕ) → n ≤ 32000 → Rest (state n 0 (1 ∷ []) Format) t → Good t × (length t ≡ n)
+start-good : (n : ℕ) (t : List ℕ) → n ≤ longest → Rest (state n 0 (1 ∷ []) Format) t → Good t × (length t ≡ n)
 start-good n t m (q, (u, v, e, (none, c, s), w)) = absurd (omega arith)
 start-good n t m (q, (u, v, e, (more i none, c, (x, y, e₁, s, z)), w)) =
     let f : t ≡ x = e ∙ ap (λ (k : List ℕ). u ++ k) w ∙ append-nil u ∙ e₁ ∙ ap (λ (k : List ℕ). x ++ k) z ∙ append-nil x in
@@ -59,12 +59,10 @@ good-start n t h (empty, e) q = absurd (omega (arith, ap length e))
 good-start n t h (one i, (s, m)) q =
     (omega arith, (t, [], sym (append-nil t), (more i none, refl, (t, [], sym (append-nil t), s, refl)), refl))
 
-start-stands : (n : ℕ) → 2 ≤ n → n ≤ 32000 → Stands n [] (state n 0 (1 ∷ []) Format)
-unfolding total
+start-stands : (n : ℕ) → 2 ≤ n → n ≤ longest → Stands n [] (state n 0 (1 ∷ []) Format)
 start-stands n h m =
-    let (t, w, q) = awaited-of (1 ∷ []) n (record { enough = omega arith; none = λ z. absurd (omega arith) }) m (omega arith) in
     record {
-      live = record { bounded = m; within = omega arith; shallow = omega arith; at = omega arith; follows = (t, (q ∙ omega arith, w)) };
+      live = one-live n h m;
       size = refl;
       read = refl;
       into = λ u g l. good-start n u h g l;
@@ -75,7 +73,7 @@ start-stands n h m =
     }
 
 -- no good text has one byte, or more than 32,000
-no-good : (n : ℕ) → (n ≡ 1) ⊎ (32000 < n) → Begins n [] → ⊥
+no-good : (n : ℕ) → (n ≡ 1) ⊎ (longest < n) → Begins n [] → ⊥
 no-good n (inl z) (t, (empty, e), q) = omega (arith, ap length e)
 no-good n (inl z) (t, (one i, (s, m)), q) = omega (arith, item-size 1 i t s)
 no-good n (inr z) (t, (empty, e), q) = omega (arith, ap length e)
@@ -83,17 +81,17 @@ no-good n (inr z) (t, (one i, (s, m)), q) = omega arith
 
 pub along-fresh : (n : ℕ) → Along n [] (fresh n)
 unfolding fresh
-along-fresh n = go (eqb n 0) refl (eqb n 1) refl (ltb 32000 n) refl
+along-fresh n = go (eqb n 0) refl (eqb n 1) refl (ltb longest n) refl
   where
     two : (x : ℕ) → (x ≡ 0 → ⊥) → (x ≡ 1 → ⊥) → 2 ≤ x
     two x h k = omega arith
 
-    go : (x : Bool) → eqb n 0 ≡ x → (y : Bool) → eqb n 1 ≡ y → (z : Bool) → ltb 32000 n ≡ z
+    go : (x : Bool) → eqb n 0 ≡ x → (y : Bool) → eqb n 1 ≡ y → (z : Bool) → ltb longest n ≡ z
         → Along n [] (cond x (state n 0 [] Format) (cond y (refused n 5) (cond z (refused n 5) (state n 0 (1 ∷ []) Format))))
     go true a y b z c = nothing (eqb-true n 0 a) refl refl
     go false a true b z c = never refl refl (no-good n (inl (eqb-true n 1 b)))
-    go false a false b true c = never refl refl (no-good n (inr (ltb-true 32000 n c)))
-    go false a false b false c = stands (start-stands n (two n (eqb-false n 0 a) (eqb-false n 1 b)) (ltb-false 32000 n c))
+    go false a false b true c = never refl refl (no-good n (inr (ltb-true longest n c)))
+    go false a false b false c = stands (start-stands n (two n (eqb-false n 0 a) (eqb-false n 1 b)) (ltb-false longest n c))
 
 -- ---- one byte more
 

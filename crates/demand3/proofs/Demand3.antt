@@ -10,7 +10,7 @@ use Rattle.wire.specs.Number.{AtMost}
 use Rattle.item.specs.Item.{empty, Good}
 use Rattle.reader.specs.State.{State, stateOf, readerOf, fresh}
 use Rattle.reader.specs.Feed.{statusAt, status, fedOf}
-use Rattle.reader.specs.Rest.{RestAt, LiveAt}
+use Rattle.reader.proofs.Rest.{RestAt, LiveAt}
 use Rattle.reader.specs.declared.Phase.{Phase}
 use Rattle.reader.specs.declared.Phase.the-variants.{Format, Length, Content, Refused}
 use Rattle.reader.specs.declared.Answer.{Answer}
@@ -18,19 +18,9 @@ use Rattle.reader.specs.declared.Answer.the-variants.{More, Complete, Refusal}
 use Rattle.reader.proofs.Eats.{more-left}
 use Rattle.demand3.specs.Begins.{Begins, NumberBehind}
 use Rattle.demand3.specs.Feeds.{joined, feeds, answerTo}
+use Rattle.demand3.specs.Verdict.{Verdict, goes-on, complete, before-any, at-byte}
 use Rattle.demand3.proofs.Along.{Stands, Along, nothing, never, stands, falls, along-fresh}
 use Rattle.demand3.proofs.Feeding.{along-holds, feed-answers, feeds-go}
-
--- What N, the bytes w of all pieces, the bytes k consumed in all and the answer have to do with each other. With more the whole of w was
--- consumed, and some good text of N bytes begins with it. When complete, the first N bytes are a good text and were consumed. A refusal
--- comes before any byte, with 5, where there is no good text of N bytes; or at a byte b behind q, with the number of its place, where some good
--- text of N bytes begins with q and none with q and b. So it comes at the first prefix that no good text of N bytes begins with.
-pub data Verdict (n : ℕ) (w : List ℕ) (k : ℕ) : Answer → Type 0 where
-  goes-on : k ≡ length w → length w < n → Begins n w → Verdict n w k More
-  complete : k ≡ n → n ≤ length w → Good (take n w) → Verdict n w k Complete
-  before-any : k ≡ 0 → (Begins n [] → ⊥) → Verdict n w k (Refusal 5)
-  at-byte : (q : List ℕ) (b : ℕ) (r : List ℕ) (e : ℕ) → w ≡ q ++ (b ∷ r) → k ≡ suc (length q) → length q < n
-      → Begins n q → (Begins n (q ++ (b ∷ [])) → ⊥) → NumberBehind n q b e → Verdict n w k (Refusal e)
 
 -- a live state that is complete has nothing left to follow
 pub complete-end : (p : Phase) (st t : List ℕ) → LiveAt p st → statusAt p st ≡ Complete → RestAt p st t → t ≡ []

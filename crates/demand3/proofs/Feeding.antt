@@ -9,7 +9,7 @@ use Rattle.wire.specs.Number.{AtMost}
 use Rattle.reader.specs.State.{State, state, stateOf, readerOf, refused}
 use Rattle.reader.specs.Step.{step}
 use Rattle.reader.specs.Feed.{allows, status, fed, after, eat, start, fedOf}
-use Rattle.reader.specs.Rest.{Live}
+use Rattle.reader.proofs.Rest.{Live}
 use Rattle.reader.specs.declared.Phase.the-variants.{Format}
 use Rattle.reader.specs.declared.Reader.{Reader}
 use Rattle.reader.specs.declared.Answer.{Answer}

@@ -8,12 +8,12 @@ use lib.ListN.{length}
 use Rattle.wire.specs.Number.{AtMost}
 use Rattle.item.proofs.Codes.{plain-small, largest-le}
 use Rattle.levels.specs.Levels.{stackOf}
-use Rattle.follow.specs.Follow.{Known, isList, isPlain}
+use Rattle.follow.proofs.Follow.{Known, isList, isPlain}
 use Rattle.follow.proofs.Grammar.{begin}
 use Rattle.reader.specs.State.{State, stateOf, readerOf, fresh}
 use Rattle.reader.specs.Step.{step}
 use Rattle.reader.specs.Feed.{allows, status, after, eat, fedOf}
-use Rattle.reader.specs.Rest.{RestAt, Rest, LiveAt, Live}
+use Rattle.reader.proofs.Rest.{RestAt, Rest, LiveAt, Live}
 use Rattle.reader.specs.declared.Phase.{Phase}
 use Rattle.reader.specs.declared.Phase.the-variants.{Format, Length, Content, Refused}
 use Rattle.reader.specs.declared.Reader.{Reader}

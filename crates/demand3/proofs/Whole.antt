@@ -17,12 +17,8 @@ use Rattle.reader.specs.declared.Answer.{Answer}
 use Rattle.reader.specs.declared.Answer.the-variants.{More, Complete, Refusal}
 use Rattle.demand3.specs.Begins.{Begins, NumberBehind}
 use Rattle.demand3.specs.Feeds.{answerTo}
-use Rattle.demand3.proofs.Demand3.{Verdict, goes-on, complete, before-any, at-byte, demand-3, answers, refused-iff, complete-iff}
-
--- what a whole text is answered: complete where it is good, and otherwise refused with a number from 1 to 6
-pub data Whole (t : List ℕ) : Answer → Type 0 where
-  is-good : Good t → Whole t Complete
-  not-good : (e : ℕ) → 1 ≤ e → e ≤ 6 → (Good t → ⊥) → Whole t (Refusal e)
+use Rattle.demand3.specs.Verdict.{Verdict, goes-on, complete, before-any, at-byte, Whole, is-good, not-good}
+use Rattle.demand3.proofs.Demand3.{demand-3, answers, refused-iff, complete-iff}
 
 abbrev InRange : ℕ → Type 0
 InRange n = (1 ≤ n) × (n ≤ 6)

@@ -129,12 +129,12 @@ enum Place {
     Refused(u32),
 }
 
-fn plain_place(code: u32, width: usize, length: usize, i: usize) -> Place
+fn plain_place(code: u32, width: usize, size: usize, i: usize) -> Place
     requires { ⌜ 0 < width ⌝ }
-    ensures { λ r. ⌜ r ≡ Rattle.element.specs.Element.plainPlace code width length i ⌝ }
+    ensures { λ r. ⌜ r ≡ Rattle.element.specs.Element.plainPlace code width size i ⌝ }
 {
-    if item::is_allowed(code, length) {
-        if i < length / width {
+    if item::is_allowed(code, size) {
+        if i < size / width {
             Place::At(i * width, width)
         } else {
             Place::Refused(8)
@@ -144,13 +144,13 @@ fn plain_place(code: u32, width: usize, length: usize, i: usize) -> Place
     }
 }
 
-fn place_of(code: u32, length: usize, i: usize) -> Place
-    ensures { λ r. ⌜ r ≡ placeOf code length i ⌝ }
+fn place_of(code: u32, size: usize, i: usize) -> Place
+    ensures { λ r. ⌜ r ≡ placeOf code size i ⌝ }
 {
     match item::kind_of(code) {
         Kind::Unknown => Place::Refused(1),
         Kind::List => Place::Refused(9),
-        Kind::Plain(width) => plain_place(code, width, length, i),
+        Kind::Plain(width) => plain_place(code, width, size, i),
     }
 }
 

@@ -92,11 +92,14 @@ fn state(r: Reader, b: &[u8]) -> Reader {
         return bad(r);
     }
     let next = reader_in(b, &b[25..]);
+    put(b"state");
     if reader::allows_state(next) {
-        put(b"state\tallowed\n");
+        put(b"\tallowed");
     } else {
-        put(b"state\tbroken\n");
+        put(b"\tbroken");
     }
+    status(reader::status_of(next));
+    put(b"\n");
     next
 }
 

@@ -9,6 +9,7 @@ use native.Mathlib.Omega.{arith}
 use lib.Dec.{eqb, leb, ltb}
 use lib.ListN.{length, length-append, replicate, length-replicate}
 use borrow.Author.Tests.{eq-eqb, ne-eqb, eqb-true, eqb-false, leb-true, ltb-true, not-true}
+use Rattle.wire.specs.Longest.{longest}
 use Rattle.wire.specs.Number.{numberOf, bytesOf, AtMost}
 use Rattle.wire.proofs.Choice.{both}
 use Rattle.wire.proofs.Numbers.{number-bytes, length-bytes, bytes-at-most, power-pos}
@@ -17,7 +18,7 @@ use Rattle.item.specs.Item.{Item, plain, none, more, good, Content, Spells}
 use Rattle.item.specs.declared.Kind.the-variants.{Plain}
 use Rattle.item.proofs.Codes.{allowed-low, plain-not-list}
 use Rattle.levels.specs.Levels.{total}
-use Rattle.follow.specs.Follow.{Run, Awaited, AfterContent, AfterLength, AfterLengths, Known, isList, isPlain}
+use Rattle.follow.proofs.Follow.{Run, Awaited, AfterContent, AfterLength, AfterLengths, Known, isList, isPlain}
 use Rattle.follow.specs.Fits.{fitsItems, fitsList, fitsPlain, fitsLengths}
 use Rattle.follow.proofs.Grammar.{grown, run-none, content-in, length-in}
 use Rattle.follow.proofs.Sizes.{same?, Fill, fits-fill, FitList, FitPlain}
@@ -49,7 +50,7 @@ three d k h deep =
       deep,
     )
 
-item-of : (d k : ℕ) → 2 ≤ k → k ≤ 32000 → d ≤ 16 → (i : Item) × (u : List ℕ) × Spells good d i u × (length u ≡ k)
+item-of : (d k : ℕ) → 2 ≤ k → k ≤ longest → d ≤ 16 → (i : Item) × (u : List ℕ) × Spells good d i u × (length u ≡ k)
 item-of d k h m deep = go (same? k 2)
   where
     go : (k ≡ 2) ⊎ (k ≡ 2 → ⊥) → (i : Item) × (u : List ℕ) × Spells good d i u × (length u ≡ k)
@@ -61,7 +62,7 @@ item-of d k h m deep = go (same? k 2)
       omega (arith, length-append (bytesOf 2 (k - 3)) (replicate (k - 3) 0), length-bytes 2 (k - 3), zeros-length (k - 3)),
     )
 
-run-of : (d n k : ℕ) → Fill k n → k ≤ 32000 → d ≤ 16 → (u : List ℕ) × Run d n u × (length u ≡ k)
+run-of : (d n k : ℕ) → Fill k n → k ≤ longest → d ≤ 16 → (u : List ℕ) × Run d n u × (length u ≡ k)
 run-of d zero k f m deep = ([], run-none d, sym (f .none refl))
 run-of d (suc zero) k f m deep =
     let (i, u, s, q) = item-of d k (omega (arith, f .enough)) m deep in
@@ -75,12 +76,12 @@ two-parts : (n : ℕ) (st : List ℕ) (x y k : ℕ) → x + y ≡ k → (u : Lis
     → (t : List ℕ) × Awaited (n ∷ st) t × (length t ≡ k)
 two-parts n st x y k e (u, s, q) (v, w, r) = (u ++ v, (u, v, refl, s, w), length-append u v ∙ omega arith)
 
-pub awaited-of : (st : List ℕ) (k : ℕ) → Fill k (total st) → k ≤ 32000 → length st ≤ 16 → (t : List ℕ) × Awaited st t × (length t ≡ k)
+pub awaited-of : (st : List ℕ) (k : ℕ) → Fill k (total st) → k ≤ longest → length st ≤ 16 → (t : List ℕ) × Awaited st t × (length t ≡ k)
 unfolding total
 awaited-of [] k f m deep = ([], refl, sym (f .none refl))
 awaited-of (n ∷ st) k f m deep = go (λ x g h. awaited-of st x g h (omega arith)) (same? (total st) 0)
   where
-    go : ((x : ℕ) → Fill x (total st) → x ≤ 32000 → (t : List ℕ) × Awaited st t × (length t ≡ x)) → (total st ≡ 0) ⊎ (total st ≡ 0 → ⊥)
+    go : ((x : ℕ) → Fill x (total st) → x ≤ longest → (t : List ℕ) × Awaited st t × (length t ≡ x)) → (total st ≡ 0) ⊎ (total st ≡ 0 → ⊥)
         → (t : List ℕ) × Awaited (n ∷ st) t × (length t ≡ k)
     go rest (inl z) =
         two-parts n st k 0 k (omega arith)
@@ -92,7 +93,7 @@ awaited-of (n ∷ st) k f m deep = go (λ x g h. awaited-of st x g h (omega arit
         (rest (k - 2 * n) (record { enough = omega (arith, f .enough); none = λ e. absurd (z e) }) (omega arith))
 
 -- members may be awaited above depth 16, and none below
-pub members-of : (v : ℕ) (st : List ℕ) (k : ℕ) → Fill k (total st + v) → k ≤ 32000 → length st ≤ 16 → (v ≡ 0) ⊎ (length st < 16)
+pub members-of : (v : ℕ) (st : List ℕ) (k : ℕ) → Fill k (total st + v) → k ≤ longest → length st ≤ 16 → (v ≡ 0) ⊎ (length st < 16)
     → (t : List ℕ) × Awaited (v ∷ st) t × (length t ≡ k)
 unfolding total
 members-of v st k f m deep (inl z) =
@@ -100,7 +101,7 @@ members-of v st k f m deep (inl z) =
     (t, ([], t, refl, (none, sym z, refl), w), q)
 members-of v st k f m deep (inr h) = awaited-of (v ∷ st) k (subst (λ (x : ℕ). Fill k x) (omega arith) f) m h
 
-pub content-of : (st : List ℕ) (c l k : ℕ) → l ≤ k → Fill (k - l) (total st) → k ≤ 32000 → length st ≤ 16 → (t : List ℕ) × AfterContent st c l t × (length t ≡ k)
+pub content-of : (st : List ℕ) (c l k : ℕ) → l ≤ k → Fill (k - l) (total st) → k ≤ longest → length st ≤ 16 → (t : List ℕ) × AfterContent st c l t × (length t ≡ k)
 content-of st c l k h f m deep =
     let (w, r, q) = awaited-of st (k - l) f (omega arith) deep in (
       replicate l 0 ++ w,
@@ -129,7 +130,7 @@ wider (suc j) h = omega (arith, pow-suc 256 j, power-pos j)
 no-product : (v j : ℕ) → v ≡ 0 → v * 256 ^ j ≡ 0
 no-product v j e = rw e (omega arith)
 
-module _ (st : List ℕ) (j v n : ℕ) (m : n ≤ 32000) (deep : length st ≤ 16) (pos : 0 < j) where
+module _ (st : List ℕ) (j v n : ℕ) (m : n ≤ longest) (deep : length st ≤ 16) (pos : 0 < j) where
   list-at : (x : ℕ) → j ≤ n → Fill (n - j) (total st + x) → (x ≡ 0) ⊎ (length st < 16) → v * 256 ^ j ≤ x → x < v * 256 ^ j + 256 ^ j
       → (t : List ℕ) × AfterLengths st L j v t × (length t ≡ n)
   list-at x room f s lo hi =
@@ -162,7 +163,7 @@ module _ (st : List ℕ) (j v n : ℕ) (m : n ≤ 32000) (deep : length st ≤ 1
           (record { enough = f .enough e; none = λ q. absurd (z (omega (arith, le-mul-of-pos-right v (power-pos j)))) })
           (inr (omega arith)) (omega arith) (omega (arith, wide))
 
-module _ (st : List ℕ) (c w j v n : ℕ) (m : n ≤ 32000) (deep : length st ≤ 16) (pos : 0 < j) (known : kindOf c ≡ Plain w) where
+module _ (st : List ℕ) (c w j v n : ℕ) (m : n ≤ longest) (deep : length st ≤ 16) (pos : 0 < j) (known : kindOf c ≡ Plain w) where
   plain-at : (x : ℕ) → j + x ≤ n → Fill (n - j - x) (total st) → allowed c x ≡ true → v * 256 ^ j ≤ x → x < v * 256 ^ j + 256 ^ j
       → (t : List ℕ) × AfterLengths st c j v t × (length t ≡ n)
   plain-at x room f whole lo hi =
@@ -228,7 +229,7 @@ plain-fit c n m j v e =
     }
 
 -- where the test holds length bytes may follow
-pub lengths-exist : (st : List ℕ) (c j v n : ℕ) → n ≤ 32000 → length st ≤ 16 → 0 < j → Known c → fitsLengths c (length st) n (total st) j v ≡ true
+pub lengths-exist : (st : List ℕ) (c j v n : ℕ) → n ≤ longest → length st ≤ 16 → 0 < j → Known c → fitsLengths c (length st) n (total st) j v ≡ true
     → (t : List ℕ) × AfterLengths st c j v t × (length t ≡ n)
 unfolding fitsLengths
 lengths-exist st c j v n m deep pos (isList z) e =

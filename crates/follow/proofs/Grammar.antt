@@ -10,7 +10,7 @@ use Rattle.wire.specs.Number.{numberOf, AtMost}
 use Rattle.wire.proofs.Numbers.{number-on}
 use Rattle.item.specs.Code.{L, largest}
 use Rattle.item.specs.Item.{Item, plain, list, none, more, count, good, Lengths, header, Spells}
-use Rattle.follow.specs.Follow.{Run, Awaited, AfterContent, PlainLength, AfterLength, AfterLengths}
+use Rattle.follow.proofs.Follow.{Run, Awaited, AfterContent, PlainLength, AfterLength, AfterLengths}
 
 pub run-none : (d : ℕ) → Run d 0 []
 run-none d = (none, refl, refl)

@@ -1,3 +1,4 @@
+pub mod Follow
 pub mod Grammar
 pub mod Sizes
 pub mod Exist

@@ -15,7 +15,7 @@ use Rattle.item.specs.Code.{L, allowed}
 use Rattle.item.specs.Item.{Item, Items, plain, list, none, more, count, good, header, Spells, SpellsAll}
 use Rattle.item.proofs.Codes.{plain-not-list}
 use Rattle.levels.specs.Levels.{total}
-use Rattle.follow.specs.Follow.{Run, Awaited, AfterContent, PlainLength, AfterLength, AfterLengths}
+use Rattle.follow.proofs.Follow.{Run, Awaited, AfterContent, PlainLength, AfterLength, AfterLengths}
 use Rattle.follow.specs.Fits.{fitsItems, fitsList, fitsPlain, fitsLengths}
 use Rattle.follow.proofs.Grammar.{grown, content-out, length-out}
 

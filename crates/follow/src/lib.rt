@@ -76,7 +76,7 @@ fn fits_plain(c: u32, n: usize, m: usize, j: usize, v: usize) -> bool
 pub fn fits_lengths(c: u32, d: usize, n: usize, m: usize, j: usize, v: usize) -> bool
     ensures { λ r. ⌜ r ≡ fitsLengths c d n m j v ⌝ }
 {
-    if c == 0 {
+    if c == item::L {
         fits_list(d, n, m, j, v)
     } else {
         fits_plain(c, n, m, j, v)

@@ -9,6 +9,7 @@ use borrow.Author.Tests.{le-ltb, ltb-false, le-leb, lt-leb}
 use lib.Dec.{ltb}
 use lib.ListN.{length, take, drop, length-append, length-drop, take-append-drop}
 use lib.Seq.{length-take-le, drop-cons}
+use Rattle.wire.specs.Longest.{longest}
 use Rattle.wire.specs.Number.{numberOf, bytesOf, AtMost}
 use Rattle.wire.proofs.Numbers.{length-bytes, number-bytes, bytes-number, at-most-take, at-most-drop}
 use Rattle.frame.specs.declared.Header.{Header}
@@ -54,15 +55,15 @@ data-stream session true stream function system = omega arith
 data-stream session false stream function system = omega arith
 
 -- the lengths in order
-pub length-range : (n : ℕ) → lengthNumber n ≡ 0 → (10 ≤ n) × (n ≤ 32010)
+pub length-range : (n : ℕ) → lengthNumber n ≡ 0 → (10 ≤ n) × (n ≤ (10 + longest))
 unfolding lengthNumber
-length-range n e = go (ltb n 10) (ltb 32010 n) refl refl e
+length-range n e = go (ltb n 10) (ltb (10 + longest) n) refl refl e
   where
-    go : (a b : Bool) → ltb n 10 ≡ a → ltb 32010 n ≡ b → _≡_ {A = ℕ} (cond a 10 (cond b 11 0)) 0 → (10 ≤ n) × (n ≤ 32010)
+    go : (a b : Bool) → ltb n 10 ≡ a → ltb (10 + longest) n ≡ b → _≡_ {A = ℕ} (cond a 10 (cond b 11 0)) 0 → (10 ≤ n) × (n ≤ (10 + longest))
     go true b p q z = absurd (omega (arith, z))
     go false true p q z = absurd (omega (arith, z))
-    go false false p q z = (ltb-false n 10 p, ltb-false 32010 n q)
+    go false false p q z = (ltb-false n 10 p, ltb-false (10 + longest) n q)
 
-pub range-length : (n : ℕ) → (10 ≤ n) × (n ≤ 32010) → lengthNumber n ≡ 0
+pub range-length : (n : ℕ) → (10 ≤ n) × (n ≤ (10 + longest)) → lengthNumber n ≡ 0
 unfolding lengthNumber
-range-length n (h, k) = rw (le-ltb n 10 h, le-ltb 32010 n k)
+range-length n (h, k) = rw (le-ltb n 10 h, le-ltb (10 + longest) n k)

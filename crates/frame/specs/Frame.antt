@@ -4,6 +4,7 @@ use mathlib.Core.Bool.{cond}
 use mathlib.Core.List.{List, _++_}
 use lib.Dec.{eqb, leb, ltb}
 use lib.ListN.{length, take}
+use Rattle.wire.specs.Longest.{longest}
 use Rattle.wire.specs.Number.{numberOf, bytesOf}
 use Rattle.wire.specs.declared.Counted.{Counted}
 use Rattle.wire.specs.declared.Counted.the-variants.{Is, Refused}
@@ -16,7 +17,7 @@ lengthIn bs = numberOf (take 4 bs)
 
 -- a length below 10 is 10, above 32,010 is 11
 unfoldable pub lengthNumber : ℕ → ℕ
-lengthNumber n = cond (ltb n 10) 10 (cond (ltb 32010 n) 11 0)
+lengthNumber n = cond (ltb n 10) 10 (cond (ltb (10 + longest) n) 11 0)
 
 -- SType not 0 with a length other than 10 is 12
 unfoldable pub kindNumber : ℕ → ℕ → ℕ
@@ -29,7 +30,7 @@ frameOf h text = bytesOf 4 (10 + length text) ++ (headerBytes h ++ text)
 -- 11, 12, then 17: an output too short
 unfoldable pub writtenOf : Header → ℕ → ℕ → Counted
 writtenOf h text room =
-    cond (leb text 32000)
+    cond (leb text longest)
     (cond (eqb (kindNumber (h .stype) (10 + text)) 0)
     (cond (leb (14 + text) room) (Is (14 + text)) (Refused 17))
     (Refused 12))

@@ -4,6 +4,7 @@ use mathlib.Core.Bool.{Bool, true, false, cond}
 use mathlib.Core.List.{List, [], _∷_, _++_}
 use lib.Dec.{eqb, leb, ltb}
 use lib.ListN.{length, drop, getD}
+use Rattle.wire.specs.Longest.{longest}
 use Rattle.frame.specs.Header.{headerOf}
 use Rattle.frame.specs.Frame.{lengthIn, lengthNumber, kindNumber}
 use Rattle.frames.specs.State.{State, head, text, refused, readerOf, stateOf}
@@ -39,7 +40,7 @@ refusalAllowed n e = cond (eqb n 0) (cond (leb 10 e) (leb e 12) false) false
 
 abbrev pub allowsAt : Phase → FrameReader → Bool
 allowsAt P.Head r = allowsHead r
-allowsAt P.Text r = cond (allowsBare r) (leb (r .left) 32000) false
+allowsAt P.Text r = cond (allowsBare r) (leb (r .left) longest) false
 allowsAt (P.Refused e) r = cond (allowsBare r) (refusalAllowed (r .left) e) false
 
 -- a state that does not break the list

@@ -8,9 +8,6 @@ ghost use Rattle.frames.specs.State.{head, refused, holding, readerOf};
 ghost use Rattle.frames.specs.Feed.{allZero, allowsHead, allowsBare, refusalAllowed, allows, fed, pushed, eat, textFed, fedOf, endOf};
 ghost use Rattle.frames.specs.Asked.{Held};
 
-// The bytes that a text may have.
-const LONGEST: usize = 32_000;
-
 // Which bytes come next: of a frame's length and header, of its text, or none since it was refused.
 pub enum Phase {
     Head,
@@ -134,7 +131,7 @@ pub fn allows_state(r: FrameReader) -> bool
     match phase {
         Phase::Head => allows_head(r),
         Phase::Text => if allows_bare(r) {
-            left <= LONGEST
+            left <= wire::LONGEST
         } else {
             false
         },

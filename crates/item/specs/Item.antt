@@ -5,6 +5,7 @@ use mathlib.Core.List.{List, [], _∷_, _++_, map}
 use mathlib.Core.Path.{_≡_}
 use lib.Dec.{eqb, ltb}
 use lib.ListN.{length}
+use Rattle.wire.specs.Longest.{longest}
 use Rattle.wire.specs.Number.{numberOf, bytesOf, AtMost}
 use Rattle.item.specs.Code.{L, BOOLEAN, kindOf, allowed, largest}
 use Rattle.item.specs.declared.Kind.the-variants.{Plain}
@@ -82,7 +83,7 @@ abbrev mutual
 -- a text is empty, or exactly one item at depth 1 whose bytes fill it, with at most 32,000 bytes
 abbrev pub Says : Form → Tree → List ℕ → Type 0
 Says f empty t = t ≡ []
-Says f (one i) t = Spells f 1 i t × (length t ≤ 32000)
+Says f (one i) t = Spells f 1 i t × (length t ≤ longest)
 
 abbrev pub Good : List ℕ → Type 0
 Good t = (w : Tree) × Says good w t

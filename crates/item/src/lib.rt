@@ -2,6 +2,9 @@ ghost use mathlib.Core.Path.{_≡_};
 ghost use Rattle.item.specs.Code.{kindOf, nameOf, allowed, largest};
 ghost use Rattle.item.specs.Item.{fewest};
 
+// The code of a list.
+pub const L: u32 = 0o00;
+
 // What a format code stands for: a list, elements of so many bytes each, or nothing.
 pub enum Kind {
     List,
@@ -50,12 +53,12 @@ pub fn name_of(code: u32) -> Name
 }
 
 // Whether an item of this code may have this length.
-pub fn is_allowed(code: u32, length: usize) -> bool
-    ensures { λ r. ⌜ r ≡ allowed code length ⌝ }
+pub fn is_allowed(code: u32, n: usize) -> bool
+    ensures { λ r. ⌜ r ≡ allowed code n ⌝ }
 {
     match kind_of(code) {
         Kind::List => true,
-        Kind::Plain(width) => length % width == 0,
+        Kind::Plain(width) => n % width == 0,
         Kind::Unknown => false,
     }
 }
@@ -68,10 +71,10 @@ pub fn largest_byte(code: u32) -> u8
 }
 
 // The fewest length bytes that hold a length, from its leading zeros.
-pub fn length_bytes(length: u32) -> usize
-    ensures { λ r. ⌜ r ≡ fewest length ⌝ }
+pub fn length_bytes(n: u32) -> usize
+    ensures { λ r. ⌜ r ≡ fewest n ⌝ }
 {
-    let zeros = u32::leading_zeros(length);
+    let zeros = u32::leading_zeros(n);
     if zeros >= 24 {
         1
     } else {

@@ -14,7 +14,7 @@ use Rattle.frame.specs.Frame.{lengthIn}
 use Rattle.outbox.specs.Outbox.{frameNumber, front, wholeFrom, holds, appendOf, appendAfter, nextNumber, nextOf, sizeOf, moved, dropOf}
 use Rattle.outbox.specs.declared.Dropped.the-variants as D
 use Rattle.outbox.proofs.Fronts.{frame-fits, front-is}
-use Rattle.queues.specs.Queue.{Box, box, joined, bufferOf, usedOf, Frames, joins, leaves, Act, toControl, toData, dropNext, Boxes, boxes, oldest, without, acted, actedAll, Lent, lent, lentOf, usedAfter, called, calledAll}
+use Rattle.queues.specs.Queue.{Box, box, joined, bufferOf, usedOf, Frames, joins, Act, toControl, toData, dropNext, Boxes, boxes, acted, actedAll, Lent, lent, lentOf, called, calledAll, Kept, Appended, Handed, Gone}
 
 -- ---- the used bytes are the frames that wait
 
@@ -60,17 +60,12 @@ module _ (b : Box) (a : Frames (b .waiting)) where
   frames-last [] f a z = (z, tt)
   frames-last (g ∷ q) f (y, a) z = (y, frames-last q f a z)
 
-  -- what the call leaves is what the queue is then
-  pub record Appended (f : List ℕ) : Type 0 where
-    pub buffer : appendAfter (appendOf (bufferOf b) (usedOf b) f) (bufferOf b) (usedOf b) f ≡ bufferOf (joins b f)
-    pub used : usedAfter (appendOf (bufferOf b) (usedOf b) f) (usedOf b) ≡ usedOf (joins b f)
-    pub frames : Frames (joins b f .waiting)
-
-  pub appended : (f : List ℕ) → Appended f
+  -- Append puts a frame behind those that wait, or changes nothing.
+  pub appended : (f : List ℕ) → Appended b f
   unfolding appendOf joins
   appended f = go (eqb (frameNumber f) 0) refl (leb (length f) (length (b .behind))) refl
     where
-      go : (x : Bool) → eqb (frameNumber f) 0 ≡ x → (y : Bool) → leb (length f) (length (b .behind)) ≡ y → Appended f
+      go : (x : Bool) → eqb (frameNumber f) 0 ≡ x → (y : Bool) → leb (length f) (length (b .behind)) ≡ y → Appended b f
       go false e y h = record { buffer = rw (box-holds, e); used = rw (box-holds, e); frames = rw e a }
       go true e false h = record { buffer = rw (box-holds, e, room-is, h); used = rw (box-holds, e, room-is, h); frames = rw (e, h) a }
       go true e true h =
@@ -122,57 +117,37 @@ module _ (c d : Box) (a : Frames (c .waiting)) (b : Frames (d .waiting)) where
   unfolding nextNumber
   number-is = rw (box-holds c a, box-holds d b)
 
--- Next hands back the oldest message, control's first; none, and 41, where both are empty.
-pub record Handed (c d : Box) : Type 0 where
-  pub part : nextOf (bufferOf c) (usedOf c) (bufferOf d) (usedOf d) ≡ oldest (c .waiting) (d .waiting)
-  pub empty : c .waiting ≡ [] → d .waiting ≡ [] → nextNumber (bufferOf c) (usedOf c) (bufferOf d) (usedOf d) ≡ 41
-
+-- Next hands back the oldest message, control's first.
 pub handed : (cq dq : List (List ℕ)) (cr dr : List ℕ) → Frames cq → Frames dq → Handed (box cq cr) (box dq dr)
 unfolding nextOf joined
 handed [] [] cr dr a b =
     let n = number-is (box [] cr) (box [] dr) a b in
-    record { part = rw n; empty = λ _ _. n }
+    record { part = rw n; number = n }
 handed [] (f ∷ q) cr dr a (z, b) =
     let n = number-is (box [] cr) (box (f ∷ q) dr) a (z, b) in
-    record {
-      part = rw (n, ne-eqb (length (f ++ joined q)) 0 (some-used f q z)) (first-is f q dr z b);
-      empty = λ _ e. absurd (let y : _≡_ {A = ℕ} 0 1 = cc in omega arith);
-    }
+    let some = ne-eqb (length (f ++ joined q)) 0 (some-used f q z) in
+    record { part = rw (n, some) (first-is f q dr z b); number = rw (n, some) }
 handed (f ∷ q) dq cr dr (z, a) b =
     let n = number-is (box (f ∷ q) cr) (box dq dr) (z, a) b in
     let some = ne-eqb (length (f ++ joined q)) 0 (some-used f q z) in
-    record {
-      part = rw (n, some) (first-is f q cr z a);
-      empty = λ e _. absurd (let y : _≡_ {A = ℕ} 0 1 = cc in omega arith);
-    }
+    record { part = rw (n, some) (first-is f q cr z a); number = rw (n, some) }
 
 -- Drop takes that message away.
-pub record Gone (c d : Box) : Type 0 where
-  pub calls : called (lentOf (boxes c d)) dropNext ≡ lentOf (without (c .waiting) (boxes c d))
-  pub control : Frames (without (c .waiting) (boxes c d) .control .waiting)
-  pub stock : Frames (without (c .waiting) (boxes c d) .stock .waiting)
-
 pub gone : (cq dq : List (List ℕ)) (cr dr : List ℕ) → Frames cq → Frames dq → Gone (box cq cr) (box dq dr)
 unfolding dropOf joined
-gone [] [] cr dr a b = record { calls = rw (number-is (box [] cr) (box [] dr) a b); control = a; stock = b }
+gone [] [] cr dr a b = record { calls = rw (number-is (box [] cr) (box [] dr) a b); kept = record { control = a; stock = b } }
 gone [] (f ∷ q) cr dr a (z, b) =
     let n = number-is (box [] cr) (box (f ∷ q) dr) a (z, b) in
     record {
       calls = rw (n, ne-eqb (length (f ++ joined q)) 0 (some-used f q z), moved-is f q dr z b, left-is f q dr z b);
-      control = a;
-      stock = b;
+      kept = record { control = a; stock = b };
     }
 gone (f ∷ q) dq cr dr (z, a) b =
     let n = number-is (box (f ∷ q) cr) (box dq dr) (z, a) b in
     let some = ne-eqb (length (f ++ joined q)) 0 (some-used f q z) in
-    record { calls = rw (n, some, moved-is f q cr z a, left-is f q cr z a); control = a; stock = b }
+    record { calls = rw (n, some, moved-is f q cr z a, left-is f q cr z a); kept = record { control = a; stock = b } }
 
 -- ---- any sequence of calls
-
--- each frame that waits in either is one that append takes
-pub record Kept (b : Boxes) : Type 0 where
-  pub control : Frames (b .control .waiting)
-  pub stock : Frames (b .stock .waiting)
 
 acted-is : (b : Boxes) → Kept b → (x : Act) → (called (lentOf b) x ≡ lentOf (acted b x)) × Kept (acted b x)
 acted-is b k (toControl f) =
@@ -183,7 +158,7 @@ acted-is b k (toData f) =
     (ap₂ (λ (s : List ℕ) (n : ℕ). lent (bufferOf (b .control)) (usedOf (b .control)) s n) (r .buffer) (r .used), record { control = k .control; stock = r .frames })
 acted-is b k dropNext =
     let r = gone (b .control .waiting) (b .stock .waiting) (b .control .behind) (b .stock .behind) (k .control) (k .stock) in
-    (r .calls, record { control = r .control; stock = r .stock })
+    (r .calls, r .kept)
 
 -- OVER ANY SEQUENCE OF APPENDS AND DROPS EACH OUTBOX IS A PLAIN QUEUE OF FRAMES: its buffer is the frames that wait, oldest first, and behind the used bytes those that were there, or 00 where freed.
 pub queues : (as′ : List Act) (b : Boxes) → Kept b → (calledAll (lentOf b) as′ ≡ lentOf (actedAll b as′)) × Kept (actedAll b as′)

@@ -7,7 +7,7 @@ use lib.Dec.{eqb, leb}
 use lib.ListN.{length, drop, replicate}
 use Rattle.wire.specs.declared.Counted.{Counted}
 use Rattle.wire.specs.declared.Counted.the-variants as C
-use Rattle.outbox.specs.Outbox.{frameNumber, appendOf, appendAfter, dropOf, controlAfter, dataAfter}
+use Rattle.outbox.specs.Outbox.{frameNumber, appendOf, appendAfter, nextNumber, nextOf, dropOf, controlAfter, dataAfter}
 use Rattle.outbox.specs.declared.Dropped.{Dropped}
 use Rattle.outbox.specs.declared.Dropped.the-variants as D
 
@@ -130,3 +130,32 @@ called l dropNext =
 abbrev pub calledAll : Lent → List Act → Lent
 calledAll l [] = l
 calledAll l (a ∷ as′) = calledAll (called l a) as′
+
+-- ---- what a call makes of queues
+
+-- each frame that waits in either is one that append takes
+pub record Kept (b : Boxes) : Type 0 where
+  pub control : Frames (b .control .waiting)
+  pub stock : Frames (b .stock .waiting)
+
+-- append leaves the outbox of the queue that the frame has joined, or of the queue as it was
+pub record Appended (b : Box) (f : List ℕ) : Type 0 where
+  pub buffer : appendAfter (appendOf (bufferOf b) (usedOf b) f) (bufferOf b) (usedOf b) f ≡ bufferOf (joins b f)
+  pub used : usedAfter (appendOf (bufferOf b) (usedOf b) f) (usedOf b) ≡ usedOf (joins b f)
+  pub frames : Frames (joins b f .waiting)
+
+-- 41 where none waits
+abbrev pub noneNumber : List (List ℕ) → List (List ℕ) → ℕ
+noneNumber [] [] = 41
+noneNumber [] (f ∷ q) = 0
+noneNumber (f ∷ q) d = 0
+
+-- next hands back the oldest message, control's first; nothing, and 41, where none waits
+pub record Handed (c d : Box) : Type 0 where
+  pub part : nextOf (bufferOf c) (usedOf c) (bufferOf d) (usedOf d) ≡ oldest (c .waiting) (d .waiting)
+  pub number : nextNumber (bufferOf c) (usedOf c) (bufferOf d) (usedOf d) ≡ noneNumber (c .waiting) (d .waiting)
+
+-- drop leaves the outboxes of the queues without that message
+pub record Gone (c d : Box) : Type 0 where
+  pub calls : called (lentOf (boxes c d)) dropNext ≡ lentOf (without (c .waiting) (boxes c d))
+  pub kept : Kept (without (c .waiting) (boxes c d))

@@ -15,7 +15,7 @@ use Rattle.follow.proofs.Sizes.{same?, awaited-fill}
 use Rattle.reader.specs.State.{State, stateOf, readerIn, readerOf, refused}
 use Rattle.reader.specs.Step.{step}
 use Rattle.reader.specs.Feed.{allows, statusAt, status, fed, after, eat}
-use Rattle.reader.specs.Rest.{RestAt, LiveAt, Live}
+use Rattle.reader.proofs.Rest.{RestAt, LiveAt, Live}
 use Rattle.reader.specs.Asked.{ReadyAt, Ready}
 use Rattle.reader.specs.declared.Phase.{Phase}
 use Rattle.reader.specs.declared.Phase.the-variants.{Format, Length, Content, Refused}

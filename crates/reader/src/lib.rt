@@ -4,14 +4,11 @@ ghost use Prim.Native.Nat.{_+_, _*_, _-_, _^_, _≤_, _<_};
 ghost use Rattle.levels.specs.Levels.{stack, Clean};
 ghost use Rattle.reader.specs.State.{state, refused, fresh, stateOf, readerIn, readerOf};
 ghost use Rattle.reader.specs.Step.{known, whole, atFormat, atList, atPlain, atLength, atContent, step};
-ghost use Rattle.reader.specs.Feed.{isPlain, allowsPhase, allowsFrame, allowsEnd, allows, status, eat, fedOf};
+ghost use Rattle.reader.specs.Feed.{isPlain, allowsPhase, allowsFrame, allowsEnd, allows, status, statusOf, eat, fedOf};
 ghost use Rattle.reader.specs.Asked.{Spot, Ready};
 ghost use Rattle.item.specs.Code.{kindOf};
 use item::Kind;
 use levels::Levels;
-
-// The bytes that a good text may have.
-const LONGEST: usize = 32_000;
 
 // What the next byte is. At least one length byte, or one content byte, is left in Length and Content.
 pub enum Phase {
@@ -199,7 +196,7 @@ fn at_length(n: usize, k: usize, l: Levels, c: u32, j: usize, v: usize) -> Reade
         }
         return refusal(n, 5);
     }
-    if c == 0 {
+    if c == item::L {
         at_list(n, k, l, v)
     } else {
         at_plain(n, k, l, c, v)
@@ -250,8 +247,8 @@ fn step_byte(r: Reader, b: u8) -> Reader
     }
 }
 
-// What a reader that is fed nothing more answers.
-pub fn status_of(r: Reader) -> Answer
+// What the phase answers.
+fn status_in(r: Reader) -> Answer
     ensures { λ a. ⌜ a ≡ status (stateOf r) ⌝ }
 {
     let phase = r.phase;
@@ -332,7 +329,7 @@ fn allows_frame(r: Reader) -> bool
 {
     let n = r.size;
     let k = r.read;
-    if LONGEST < n {
+    if wire::LONGEST < n {
         return false;
     }
     if n < k {
@@ -403,7 +400,7 @@ fn eat_all(r: Reader, piece: &[u8]) -> Fed
     while i < piece.len() {
         state = step_byte(state, piece[i]);
         i += 1;
-        let answer = status_of(state);
+        let answer = status_in(state);
         match answer {
             Answer::More => {}
             Answer::Complete => {
@@ -429,12 +426,23 @@ fn eat_all(r: Reader, piece: &[u8]) -> Fed
     }
 }
 
+// What a reader that is fed nothing more answers; 14 first.
+pub fn status_of(r: Reader) -> Answer
+    ensures { λ a. ⌜ a ≡ statusOf r ⌝ }
+{
+    if allows_state(r) {
+        status_in(r)
+    } else {
+        Answer::Refusal(14)
+    }
+}
+
 // A piece more, perhaps empty.
 pub fn feed(r: Reader, piece: &[u8]) -> Fed
     ensures { λ f. ⌜ f ≡ fedOf r (now (piece .entry)) ⌝ }
 {
     if allows_state(r) {
-        let answer = status_of(r);
+        let answer = status_in(r);
         match answer {
             Answer::More => eat_all(r, piece),
             Answer::Complete => if piece.len() == 0 {
@@ -475,7 +483,7 @@ pub fn fresh_reader(n: usize) -> Reader
     if n == 1 {
         return refusal(n, 5);
     }
-    if LONGEST < n {
+    if wire::LONGEST < n {
         return refusal(n, 5);
     }
     reader_in(n, 0, levels::opened(levels::none(), 1), Phase::Format)

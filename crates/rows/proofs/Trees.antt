@@ -5,6 +5,7 @@ use mathlib.Core.List.{List, [], _∷_, _++_, append-assoc, append-nil}
 use native.Mathlib.Nat.{suc-inj}
 use native.Mathlib.Omega.{arith}
 use lib.ListN.{length, length-append}
+use Rattle.wire.specs.Longest.{longest}
 use Rattle.wire.specs.Number.{bytesOf}
 use Rattle.item.specs.Code.{L}
 use Rattle.item.specs.Item.{Item, Items, plain, list, none, more, count, Tree, empty, one, good, lean, fewest, Content, Lengths, Spells, SpellsAll, Says, told, meaning, meanings, meaningOf, leanHeader, leanItem, leanItems, leanOf}
@@ -120,7 +121,7 @@ mutual
       let n = length-append (leanItem i) (leanItems is) in
       (leanItem i, leanItems is, refl, item-spells i s d u h (omega (arith, n)), items-spell is s d v all (omega (arith, n)))
 
-pub tree-spells : (w : Tree) (s : List ℕ) (rs : List Row) → Has s w rs → length (leanOf w) ≤ 32000 → Says lean (meaningOf w) (leanOf w)
+pub tree-spells : (w : Tree) (s : List ℕ) (rs : List Row) → Has s w rs → length (leanOf w) ≤ longest → Says lean (meaningOf w) (leanOf w)
 tree-spells empty s rs e few = refl
 tree-spells (one i) s rs h few = (item-spells i s 1 rs h (omega arith), few)
 

@@ -6,6 +6,7 @@ use native.Mathlib.Omega.{arith}
 use borrow.Author.Tests.{ne-eqb}
 use lib.ListN.{length, take, drop, length-append}
 use lib.Seq.{take-at, drop-at}
+use Rattle.wire.specs.Longest.{longest}
 use Rattle.wire.specs.Number.{numberOf}
 use Rattle.item.specs.Code.{L, kindOf}
 use Rattle.item.specs.declared.Kind.the-variants.{Plain}
@@ -188,6 +189,6 @@ module _ (t : List ℕ) where
         few = omega (arith, tree-size w t (rowsIn t) (text-has w s), shortest t t w w s s refl, short w s);
       }
     where
-      short : (w : Tree) → Says good w t → length t ≤ 32000
+      short : (w : Tree) → Says good w t → length t ≤ longest
       short empty e = omega (arith, ap length e)
       short (one i) (s, few) = few

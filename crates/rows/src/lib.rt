@@ -9,13 +9,13 @@ pub struct Row {
 }
 
 // The bytes of the lean text of a row with this code and length.
-pub fn lean_size(code: u32, length: u32) -> usize
-    ensures { λ r. ⌜ r ≡ rowSize code length ⌝ }
+pub fn lean_size(code: u32, n: u32) -> usize
+    ensures { λ r. ⌜ r ≡ rowSize code n ⌝ }
 {
-    let header = 1 + item::length_bytes(length);
-    if code == 0 {
+    let header = 1 + item::length_bytes(n);
+    if code == item::L {
         header
     } else {
-        header + (length as usize)
+        header + (n as usize)
     }
 }

@@ -9,6 +9,7 @@ use borrow.Author.Tests.{eq-eqb, eqb-true}
 use lib.Dec.{eqb}
 use lib.ListN.{length, getD, length-append}
 use lib.Seq.{take-at}
+use Rattle.wire.specs.Longest.{longest}
 use Rattle.wire.specs.Number.{numberOf, bytesOf}
 use Rattle.wire.proofs.Numbers.{length-bytes, number-bytes}
 use Rattle.frame.specs.Header.{headerBytes}
@@ -33,7 +34,7 @@ short-unfinished bs h f more t e =
     omega (arith, ap length e, length-append (frameOf (f .header) (f .text)) more, frame-length (f .header) (f .text))
 
 -- a frame of whose text some bytes are still to come is no whole one
-text-unfinished : (h : Header) (x : List ℕ) (n : ℕ) → length x + suc n ≤ 32000 → Unfinished (bytesOf 4 (10 + (length x + suc n)) ++ (headerBytes h ++ x))
+text-unfinished : (h : Header) (x : List ℕ) (n : ℕ) → length x + suc n ≤ longest → Unfinished (bytesOf 4 (10 + (length x + suc n)) ++ (headerBytes h ++ x))
 text-unfinished h x n few f more t e =
     let m = 10 + (length x + suc n) in
     let k = length-bytes 4 m in

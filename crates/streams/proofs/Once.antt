@@ -6,6 +6,7 @@ use native.Mathlib.Nat.{mod-eq-of-lt}
 use native.Mathlib.Omega.{arith}
 use lib.ListN.{length, take}
 use lib.Seq.{take-at}
+use Rattle.wire.specs.Longest.{longest}
 use Rattle.wire.specs.Number.{numberOf, bytesOf}
 use Rattle.wire.proofs.Stores.{parts}
 use Rattle.wire.proofs.Numbers.{length-bytes, number-bytes}
@@ -16,7 +17,7 @@ use Rattle.frame.proofs.Laws.{bytes-length, header-back, frame-length}
 use Rattle.streams.specs.Stream.{Frame, frame, Taken, AllTaken, all, Unfinished, Split}
 
 -- the first four bytes of a frame say its length
-pub frame-says : (h : Header) (x v : List ℕ) → length x ≤ 32000 → lengthIn (frameOf h x ++ v) ≡ 10 + length x
+pub frame-says : (h : Header) (x v : List ℕ) → length x ≤ longest → lengthIn (frameOf h x ++ v) ≡ 10 + length x
 unfolding frameOf
 frame-says h x v few =
     let n = length-bytes 4 (10 + length x) in

@@ -9,6 +9,7 @@ use borrow.Author.Tests.{eq-eqb, lt-ltb, le-leb, eqb-true, ltb-false}
 use lib.Dec.{eqb, ltb}
 use lib.ListN.{length, take, drop, getD, replicate, length-append, length-take, length-drop, take-append-drop}
 use lib.Seq.{take-at, drop-at, take-all, getD-drop}
+use Rattle.wire.specs.Longest.{longest}
 use Rattle.wire.specs.Number.{numberOf, bytesOf, AtMost}
 use Rattle.wire.proofs.Numbers.{number-lt, bytes-number, at-most-take, at-most-drop, at-most-append}
 use Rattle.frame.specs.Header.{InRange, headerBytes, headerOf}
@@ -44,7 +45,7 @@ pub record InText (c : List ℕ) (g : Handed) (n : ℕ) : Type 0 where
   pub taken : AllTaken (g .done)
   pub is : c ≡ all (g .done) ++ (bytesOf 4 (10 + (length so-far + n)) ++ (headerBytes header ++ so-far))
   pub range : InRange header
-  pub few : length so-far + n ≤ 32000
+  pub few : length so-far + n ≤ longest
   pub kind : kindNumber (header .stype) (10 + (length so-far + n)) ≡ 0
 
 pub record InRefused (c : List ℕ) (g : Handed) (e : ℕ) : Type 0 where
@@ -67,7 +68,7 @@ zeros (suc n) = zeros n
 
 bad-range : (t : List ℕ) (e : ℕ) → Bad t e → (10 ≤ e) × (e ≤ 12)
 unfolding lengthNumber kindNumber
-bad-range t e (at-length n z s) = go (ltb (lengthIn t) 10) (ltb 32010 (lengthIn t)) z
+bad-range t e (at-length n z s) = go (ltb (lengthIn t) 10) (ltb (10 + longest) (lengthIn t)) z
   where
     go : (a b : Bool) → _≡_ {A = ℕ} (cond a 10 (cond b 11 0)) e → (10 ≤ e) × (e ≤ 12)
     go true b q = (omega arith, omega arith)
@@ -96,7 +97,7 @@ head-allowed bs begun = go (ltb (length bs) 4) refl
 pub right-allowed : (c : List ℕ) (g : Handed) (s : State) → Right c g s → allows (readerOf s) ≡ true
 unfolding allows readerOf
 right-allowed c g (head bs) r = head-allowed bs (r .begun)
-right-allowed c g (text n) r = le-leb n 32000 (omega (arith, r .few))
+right-allowed c g (text n) r = le-leb n longest (omega (arith, r .few))
 right-allowed c g (refused e) r =
     let k = bad-range (r .last) e (r .why) in
     rw (le-leb 10 e (k .0), le-leb e 12 (k .1))

@@ -3,6 +3,7 @@ use Prim.Native.Nat.{ℕ, _+_, _≤_}
 use mathlib.Core.List.{List, [], _∷_, _++_}
 use mathlib.Core.Path.{_≡_}
 use lib.ListN.{length}
+use Rattle.wire.specs.Longest.{longest}
 use Rattle.frame.specs.Header.{InRange}
 use Rattle.frame.specs.Frame.{kindNumber, frameOf}
 use Rattle.frame.specs.declared.Header.{Header}
@@ -18,7 +19,7 @@ frame h x = record { header = h; text = x }
 -- not 10, 11 or 12: a text of at most 32,000 bytes, and none unless the SType is 0
 pub record Taken (f : Frame) : Type 0 where
   pub range : InRange (f .header)
-  pub few : length (f .text) ≤ 32000
+  pub few : length (f .text) ≤ longest
   pub kind : kindNumber (f .header .stype) (10 + length (f .text)) ≡ 0
 
 abbrev pub AllTaken : List Frame → Type 0

@@ -17,7 +17,8 @@ use Rattle.reader.specs.Feed.{fedOf}
 use Rattle.reader.specs.declared.Answer.{Answer}
 use Rattle.reader.specs.declared.Reader.{Reader}
 use Rattle.reader.specs.declared.Fed.{Fed}
-use Rattle.demand3.proofs.Whole.{Whole, is-good, not-good, whole-text}
+use Rattle.demand3.specs.Verdict.{Whole, is-good, not-good}
+use Rattle.demand3.proofs.Whole.{whole-text}
 use Rattle.rows.specs.Asked.{Sound}
 use Rattle.rows.proofs.Walk.{good-sound}
 use Rattle.rows.specs.Row.{sizeOf}

@@ -48,7 +48,7 @@ fn behind(r: Row) -> usize
 {
     let code = r.code;
     let place = r.place as usize;
-    if code == 0 {
+    if code == item::L {
         place
     } else {
         place + (r.length as usize)

@@ -6,6 +6,9 @@ ghost use Rattle.wire.specs.Number.{numberOf, bytesOf};
 ghost use Rattle.wire.specs.Lent.{copied};
 ghost use Rattle.wire.specs.Twos.{halfOf, signedOf, unsignedOf};
 
+// The most bytes that a text may have.
+pub const LONGEST: usize = 32_000;
+
 // How many there are, or the refusal's number: what calls answer that count rows or bytes.
 pub enum Counted {
     Is(usize),

@@ -6,6 +6,7 @@ use native.Mathlib.Omega.{arith}
 use borrow.Author.Tests.{eq-eqb, le-leb, lt-leb}
 use lib.ListN.{length, take, drop}
 use lib.Seq.{take-at}
+use Rattle.wire.specs.Longest.{longest}
 use Rattle.wire.specs.Number.{AtMost}
 use Rattle.rows.specs.Row.{rowsOf, tableOf, textOf, sizeOf}
 use Rattle.item.specs.Item.{Tree, leanOf}
@@ -39,7 +40,7 @@ good-written t bytes good room h =
     let has = text-has t w s in
     let n = tree-size w t (rowsIn t) has in
     tree-written (tableOf (rowsIn t)) t room w (omega (arith, table-length (rowsIn t))) (subst (Has t w) (sym (rows-table (rowsIn t))) has)
-    ∙ rw (← n, le-leb (sizeOf (rowsIn t)) 32000 (judged-sound t bytes good .few), le-leb (sizeOf (rowsIn t)) room h)
+    ∙ rw (← n, le-leb (sizeOf (rowsIn t)) longest (judged-sound t bytes good .few), le-leb (sizeOf (rowsIn t)) room h)
 
 -- what the call makes of a text that is measured, a table and an output
 module _ (t table out : List ℕ) (rows bytes : ℕ) (k : Known t rows bytes) where

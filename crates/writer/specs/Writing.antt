@@ -4,6 +4,7 @@ use mathlib.Core.Bool.{Bool, true, false, cond}
 use mathlib.Core.List.{List, [], _∷_, _++_}
 use lib.Dec.{eqb, leb}
 use lib.ListN.{length, drop}
+use Rattle.wire.specs.Longest.{longest}
 use Rattle.item.specs.Code.{L, kindOf, allowed, largest}
 use Rattle.item.specs.declared.Kind.{Kind}
 use Rattle.item.specs.declared.Kind.the-variants as K
@@ -75,7 +76,7 @@ tableNumber s table = cond (eqb (length table % 3) 0) (rowsNumber s (rowsOf tabl
 
 -- a text of n bytes for an output of so many: above 32,000, 18; output too short, 17; else the bytes used
 abbrev pub usedOf : ℕ → ℕ → Counted
-usedOf n room = cond (leb n 32000) (cond (leb n room) (Is n) (Refused 17)) (Refused 18)
+usedOf n room = cond (leb n longest) (cond (leb n room) (Is n) (Refused 17)) (Refused 18)
 
 unfoldable pub writtenOf : List ℕ → List ℕ → ℕ → Counted
 writtenOf table s room =

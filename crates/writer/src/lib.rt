@@ -5,6 +5,7 @@ ghost use lib.ListN.{length, getD};
 ghost use lib.Seq.{sets};
 ghost use mathlib.Core.Bool.{cond};
 ghost use lib.Dec.{eqb};
+ghost use Rattle.wire.specs.Longest.{longest};
 ghost use Rattle.item.specs.Code.{L, BOOLEAN};
 ghost use Rattle.item.specs.Item.{truth, told, leanHeader};
 ghost use Rattle.levels.specs.Levels.{stack, levelsOf, Clean};
@@ -18,9 +19,6 @@ use levels::Levels;
 use rows::Row;
 use text::Measured;
 use wire::Counted;
-
-// The bytes that a text may have.
-const LONGEST: usize = 32_000;
 
 // The row that begins with the table's number i.
 fn row_in(table: &[u32], i: usize) -> Row
@@ -102,7 +100,7 @@ fn levels_behind(l: Levels, r: Row) -> Levels
     let code = r.code;
     let length = r.length;
     let low = levels::begun(l);
-    if code == 0 {
+    if code == item::L {
         if length != 0 {
             return levels::opened(low, length);
         }
@@ -143,14 +141,14 @@ fn table_number(table: &[u32], content: &[u8]) -> u32
 
 // The bytes of the rows' lean text, or one above the longest where they are more.
 fn text_size(table: &[u32]) -> usize
-    ensures { λ n. ⌜ n ≡ min 32001 (sizeOf (rowsOf (now (table .entry)))) ⌝ }
+    ensures { λ n. ⌜ n ≡ min (1 + longest) (sizeOf (rowsOf (now (table .entry)))) ⌝ }
 {
     let mut size: usize = 0;
     let mut i: usize = 0;
     while 3 <= table.len() - i {
         size += rows::lean_size(table[i], table[i + 1]);
-        if LONGEST < size {
-            return LONGEST + 1;
+        if wire::LONGEST < size {
+            return wire::LONGEST + 1;
         }
         i += 3;
     }
@@ -204,7 +202,7 @@ fn put_row(out: &mut [u8], at: usize, content: &[u8], r: Row) -> usize
     let code = r.code;
     let length = r.length;
     let body = put_header(out, at, r);
-    if code == 0 {
+    if code == item::L {
         return body;
     }
     let from = r.place as usize;
@@ -238,7 +236,7 @@ pub fn write(table: &[u32], content: &[u8], out: &mut [u8]) -> Counted
         return Counted::Refused(number);
     }
     let size = text_size(table);
-    if LONGEST < size {
+    if wire::LONGEST < size {
         return Counted::Refused(18);
     }
     if out.len() < size {

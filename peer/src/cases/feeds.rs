@@ -79,9 +79,11 @@ impl Feeds {
         let counts = state.counts.map(u32::to_be_bytes).concat();
         self.book.record('s', &[&fields, &[state.phase], &phase, &counts]);
         self.reader = state.reader();
-        let kept = !matches!(self.reader, Reader::Broken);
-        self.book.line_out(if kept { "state\tallowed" } else { "state\tbroken" });
-        self.book.kind(if kept { "state allowed" } else { "state broken" });
+        let judged = if matches!(self.reader, Reader::Broken) { "broken" } else { "allowed" };
+        let status = self.reader.status();
+        self.book.line_out(&format!("state\t{judged}\t{}", status_fields(status)));
+        self.book.kind(&format!("state {judged}"));
+        self.count(status);
     }
 
     /// The bytes in one piece and byte by byte; then what comes behind complete or a refusal.
@@ -226,7 +228,7 @@ impl Feeds {
 
     /// Each line of the list, kept and broken, and feeds after it.
     fn states(&mut self) {
-        let cases = [format_states(), length_states(), deep_states(), content_states(), refused_states()];
+        let cases = [format_states(), length_states(), deep_states(), content_states(), refused_states(), bare_refusals()];
         for (name, state) in cases.into_iter().flatten() {
             self.begin_at(name, &state);
         }
@@ -453,11 +455,29 @@ fn refused_states() -> Named {
         ("refused", refused.clone()),
         ("refused with 0", State { code: 0, ..refused }),
         ("refused with 1", State { code: 1, ..refused }),
+        ("refused with 2", State { code: 2, ..refused }),
+        ("refused with 3", State { code: 3, ..refused }),
+        ("refused with 4", State { code: 4, ..refused }),
         ("refused with 6", State { code: 6, phase: 255, ..refused }),
         ("refused with 7", State { code: 7, ..refused }),
         ("refused, a byte read", State { read: 1, ..refused }),
         ("refused, a level open", State { level: 1, ..refused }),
         ("refused, an item awaited", State { counts: counts_at(16, 1), ..refused }),
+        ("refused with 99, an item awaited at each depth", State { code: 99, counts: [1; 16], ..refused }),
         ("refused with any N", State { n: u32::MAX, left: 8, value: 8, ..refused }),
+    ]
+}
+
+/// Refused, and all else zero, N too: the number alone keeps or breaks the list.
+fn bare_refusals() -> Named {
+    let bare = State { phase: 3, ..State::default() };
+    vec![
+        ("refused with 5, all else zero", State { code: 5, ..bare }),
+        ("refused with 0, all else zero", State { code: 0, ..bare }),
+        ("refused with 7, all else zero", State { code: 7, ..bare }),
+        ("refused with 13, all else zero", State { code: 13, ..bare }),
+        ("refused with 14, all else zero", State { code: 14, ..bare }),
+        ("refused with 99, all else zero", State { code: 99, ..bare }),
+        ("refused with 4294967295, all else zero", State { code: u32::MAX, ..bare }),
     ]
 }

@@ -19,7 +19,7 @@ div-if2 c = search needs
 mul-t10 : tie.Need-mul-t10
 mul-t10 c =
     let a = c .before .before .before .args in
-    omega (arith, inside (a .length) (a .width) (a .i) (c .if2 .taken))
+    omega (arith, inside (a .size) (a .width) (a .i) (c .if2 .taken))
 
 returns : tie.Need-returns
 unfolding plainPlace

@@ -18,12 +18,12 @@ abbrev μ-loop : tie.MeasureT-loop
 μ-loop piece state₀ i₀ state i = length piece - i
 
 -- the turn, where its answer is known
-turn : (c : tie.After-status-of Inv-loop μ-loop)
+turn : (c : tie.After-status-in Inv-loop μ-loop)
     → let l = c .before .before .before .before .loop in
-    Turned (c .before .before .before .before .before .before .args .piece .now) (stateOf (c .before .before .before .before .before .before .args .r)) (l .i) (c .before .step-byte .result) (c .status-of .result)
+    Turned (c .before .before .before .before .before .before .args .piece .now) (stateOf (c .before .before .before .before .before .before .args .r)) (l .i) (c .before .step-byte .result) (c .status-in .result)
 turn c =
     let l = c .before .before .before .before .loop in
-    turned _ _ (l .state) (l .i) _ _ (omega arith) (omega (arith, c .before .before .shared-slice-known2 .given (l .i))) (l .inv .1) (l .inv .2) (c .before .step-byte .ensures) (c .status-of .ensures)
+    turned _ _ (l .state) (l .i) _ _ (omega arith) (omega (arith, c .before .before .shared-slice-known2 .given (l .i))) (l .inv .1) (l .inv .2) (c .before .step-byte .ensures) (c .status-in .ensures)
 
 loop-holds : tie.Need-loop-holds Inv-loop μ-loop
 loop-holds c =
@@ -40,8 +40,8 @@ step-byte-requires c κs = ready (c .before .before .loop .state) (c .before .be
 add-i : tie.Need-add-i Inv-loop μ-loop
 add-i c = omega arith
 
-status-of-requires : tie.Need-status-of-requires Inv-loop μ-loop
-status-of-requires c κs = search needs
+status-in-requires : tie.Need-status-in-requires Inv-loop μ-loop
+status-in-requires c κs = search needs
 
 enum-told : tie.Need-enum-told Inv-loop μ-loop
 enum-told c = search needs
@@ -85,7 +85,7 @@ eat-all-spec =
     shared-slice-read-step-byte
     step-byte-requires
     add-i
-    status-of-requires
+    status-in-requires
     enum-told
     loop-less
     loop-again

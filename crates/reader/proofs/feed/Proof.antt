@@ -31,8 +31,8 @@ something r (b ∷ p) n = refl
 allows-state-requires : tie.Need-allows-state-requires
 allows-state-requires c κs = search needs
 
-status-of-requires : tie.Need-status-of-requires
-status-of-requires c κs = search needs
+status-in-requires : tie.Need-status-in-requires
+status-in-requires c κs = search needs
 
 enum-told : tie.Need-enum-told
 enum-told c = search needs
@@ -40,7 +40,7 @@ enum-told c = search needs
 eat-all-requires : tie.Need-eat-all-requires
 eat-all-requires c κs =
     let b = c .before .before in
-    (sym (b .before .before .allows-state .ensures) ∙ b .before .if1 .taken, sym (b .status-of .ensures) ∙ c .enum-told .given .1)
+    (sym (b .before .before .allows-state .ensures) ∙ b .before .if1 .taken, sym (b .status-in .ensures) ∙ c .enum-told .given .1)
 
 enum-told-2 : tie.Need-enum-told-2
 enum-told-2 c = search needs
@@ -53,28 +53,28 @@ returns c =
     let b = c .before .before .before in
     let a = b .before .before .before .before .args in
     c .eat-all .ensures
-    ∙ allowed (a .r) (a .piece .now) More (sym (b .before .before .allows-state .ensures) ∙ b .before .if1 .taken) (sym (b .status-of .ensures) ∙ c .before .enum-told .given .1)
+    ∙ allowed (a .r) (a .piece .now) More (sym (b .before .before .allows-state .ensures) ∙ b .before .if1 .taken) (sym (b .status-in .ensures) ∙ c .before .enum-told .given .1)
 
 returns-2 : tie.Need-returns-2
 returns-2 c =
     let b = c .before .before .before in
     let a = b .before .before .before .before .args in
     nothing (a .r) (a .piece .now) (c .if2 .taken)
-    ∙ allowed (a .r) (a .piece .now) Complete (sym (b .before .before .allows-state .ensures) ∙ b .before .if1 .taken) (sym (b .status-of .ensures) ∙ c .before .enum-told2 .given .1)
+    ∙ allowed (a .r) (a .piece .now) Complete (sym (b .before .before .allows-state .ensures) ∙ b .before .if1 .taken) (sym (b .status-in .ensures) ∙ c .before .enum-told2 .given .1)
 
 returns-3 : tie.Need-returns-3
 returns-3 c =
     let b = c .before .before .before in
     let a = b .before .before .before .before .args in
     something (a .r) (a .piece .now) (c .if2 .left)
-    ∙ allowed (a .r) (a .piece .now) Complete (sym (b .before .before .allows-state .ensures) ∙ b .before .if1 .taken) (sym (b .status-of .ensures) ∙ c .before .enum-told2 .given .1)
+    ∙ allowed (a .r) (a .piece .now) Complete (sym (b .before .before .allows-state .ensures) ∙ b .before .if1 .taken) (sym (b .status-in .ensures) ∙ c .before .enum-told2 .given .1)
 
 returns-4 : tie.Need-returns-4
 returns-4 c =
     let b = c .before .before .before in
     let a = b .before .before .before .before .args in
     allowed (a .r) (a .piece .now) (Refusal (c .before .answer .given .0 .0)) (sym (b .before .before .allows-state .ensures) ∙ b .before .if1 .taken)
-    (sym (b .status-of .ensures) ∙ c .before .answer .given .1)
+    (sym (b .status-in .ensures) ∙ c .before .answer .given .1)
 
 returns-5 : tie.Need-returns-5
 unfolding fedOf
@@ -87,7 +87,7 @@ feed-spec =
     tie.close
     (tie.spec
     allows-state-requires
-    status-of-requires
+    status-in-requires
     enum-told
     eat-all-requires
     enum-told-2

@@ -6,6 +6,7 @@ use mathlib.Core.List.{List}
 use native.Mathlib.Omega.{arith}
 use native.Mathlib.Nat.{zero-add}
 use lib.ListN.{length, getD, drop}
+use Rattle.wire.specs.Longest.{longest}
 use Rattle.rows.specs.Row.{rowsOf, sizeOf}
 use Rattle.rows.proofs.Tables.{rowFrom, rows-more, rows-end, row-size}
 use Rattle.writer.proofs.text_size.Statement.{statement}
@@ -13,7 +14,7 @@ use Rattle.writer.proofs.text_size.Tie as tie
 
 abbrev Inv-loop : tie.InvT-loop
 Inv-loop table size₀ i₀ size i =
-    (i ≤ length table) × (size ≤ 32000) × (size + sizeOf (rowsOf (drop i table)) ≡ sizeOf (rowsOf table))
+    (i ≤ length table) × (size ≤ longest) × (size + sizeOf (rowsOf (drop i table)) ≡ sizeOf (rowsOf table))
 
 abbrev μ-loop : tie.MeasureT-loop
 μ-loop table size₀ i₀ size i = length table - i

@@ -1,11 +1,12 @@
 -- Each refusal is the definition's, before anything is stored; rows that are judged well have a text as long as their sizes say, and it is stored from place 0.
 use borrow.Author.Needs.{needs}
-use Prim.Native.Nat.{ℕ, _≤_, min}
+use Prim.Native.Nat.{ℕ, _+_, _≤_, min}
 use mathlib.Core.Path.{_≡_, refl, sym, ap, _∙_}
 use mathlib.Core.List.{List}
 use native.Mathlib.Omega.{arith}
 use borrow.Author.Tests.{eq-eqb, ne-eqb, le-leb, lt-leb}
 use lib.ListN.{length}
+use Rattle.wire.specs.Longest.{longest}
 use Rattle.wire.proofs.Stores.{part-sets}
 use Rattle.rows.specs.Row.{rowsOf, textOf}
 use Rattle.wire.specs.declared.Counted.the-variants.{Is}
@@ -24,11 +25,11 @@ text c = textOf (start c .args .content .now) (rowsOf (start c .args .table .now
 
 -- a table in order, and the size of its text
 measured : (c : tie.After-text-size)
-    → (tableNumber (start c .args .content .now) (start c .args .table .now) ≡ 0) × (c .text-size .result ≡ min 32001 (length (text c)))
+    → (tableNumber (start c .args .content .now) (start c .args .table .now) ≡ 0) × (c .text-size .result ≡ min (1 + longest) (length (text c)))
 measured c =
     let a = start c .args in
     let z : tableNumber (a .content .now) (a .table .now) ≡ 0 = sym (c .before .before .table-number .ensures) ∙ c .before .if1 .left in
-    (z, c .text-size .ensures ∙ ap (min 32001) (sym (text-length (a .content .now) (rowsOf (a .table .now)) (table-fits (a .content .now) (a .table .now) z))))
+    (z, c .text-size .ensures ∙ ap (min (1 + longest)) (sym (text-length (a .content .now) (rowsOf (a .table .now)) (table-fits (a .content .now) (a .table .now) z))))
 
 table-number-requires : tie.Need-table-number-requires
 table-number-requires c κs = search needs
@@ -44,7 +45,7 @@ returns-2 : tie.Need-returns-2
 unfolding writtenOf
 returns-2 c =
     let m = measured (c .before) in
-    (rw (eq-eqb _ _ (m .0), lt-leb (length (text (c .before))) 32000 (omega (arith, m .1, c .if2 .taken))), refl)
+    (rw (eq-eqb _ _ (m .0), lt-leb (length (text (c .before))) longest (omega (arith, m .1, c .if2 .taken))), refl)
 
 returns-3 : tie.Need-returns-3
 unfolding writtenOf
@@ -53,7 +54,7 @@ returns-3 c =
     let m = measured d in
     let o = start d .args .out .now in
     let e : length (text d) ≡ d .text-size .result = omega (arith, m .1, c .before .if2 .left) in
-    (rw (eq-eqb _ _ (m .0), le-leb (length (text d)) 32000 (omega (arith, e, c .before .if2 .left)), lt-leb (length (text d)) (length o) (omega (arith, e, c .if3 .taken))), refl)
+    (rw (eq-eqb _ _ (m .0), le-leb (length (text d)) longest (omega (arith, e, c .before .if2 .left)), lt-leb (length (text d)) (length o) (omega (arith, e, c .if3 .taken))), refl)
 
 put-rows-requires : tie.Need-put-rows-requires
 put-rows-requires c κs =
@@ -74,7 +75,7 @@ returns-4 c =
     let o = start d .args .out .now in
     let e : length (text d) ≡ d .text-size .result = omega (arith, m .1, f .before .if2 .left) in
     let h : d .text-size .result ≤ length o = f .if3 .left in (
-      rw (eq-eqb _ _ (m .0), le-leb (length (text d)) 32000 (omega (arith, e, f .before .if2 .left)), le-leb (length (text d)) (length o) (omega (arith, e, h))) (ap Is (sym e)),
+      rw (eq-eqb _ _ (m .0), le-leb (length (text d)) longest (omega (arith, e, f .before .if2 .left)), le-leb (length (text d)) (length o) (omega (arith, e, h))) (ap Is (sym e)),
       c .before .before .put-rows .ensures ∙ sym (part-sets o (text d) 0 (d .text-size .result) e (omega (arith, h))),
     )
 

@@ -1,0 +1,71 @@
+-- Document 01's starred byte lines, as one table, and what is right of a line.
+use Prim.Native.Nat.{ℕ, _≤_}
+use mathlib.Core.List.{List, [], _∷_, _++_}
+use mathlib.Core.Path.{_≡_}
+use lib.ListN.{length, drop}
+use Rattle.item.specs.Code.{A, BOOLEAN}
+use Rattle.item.specs.Item.{plain, Tree, one, good, Says, leanOf}
+use Rattle.reader.specs.State.{readerOf, fresh}
+use Rattle.reader.specs.Feed.{fedOf}
+use Rattle.reader.specs.declared.Answer.{Answer}
+use Rattle.reader.specs.declared.Answer.the-variants.{Complete, Refusal}
+use Rattle.wire.specs.declared.Counted.the-variants.{Is}
+use Rattle.demand2.specs.Calls.{writeLean}
+
+-- the lean form of a good text, where the document gives it: the tree that the text spells, and the lean bytes
+pub data LeanForm : Type 0 where
+  not-given : LeanForm
+  given : Tree → List ℕ → LeanForm
+
+-- N, the bytes, the answer, and the byte at which it comes
+pub record Line : Type 0 where
+  pub size : ℕ
+  pub bytes : List ℕ
+  pub answer : Answer
+  pub at : ℕ
+  pub lean : LeanForm
+
+abbrev pub line : ℕ → List ℕ → Answer → ℕ → Line
+line n b a k = record { size = n; bytes = b; answer = a; at = k; lean = not-given }
+
+abbrev pub leanLine : ℕ → List ℕ → Tree → List ℕ → Line
+leanLine n b w l = record { size = n; bytes = b; answer = Complete; at = n; lean = given w l }
+
+-- the starred lines, in 01's order
+abbrev pub table : List Line
+table =
+    line 0 [] Complete 0
+    ∷ line 1 [] (Refusal 5) 0
+    ∷ line 2 (0x01 ∷ 0x00 ∷ []) Complete 2
+    ∷ line 3 (0x01 ∷ []) (Refusal 5) 1
+    ∷ line 3 (0x02 ∷ 0x00 ∷ 0x00 ∷ []) Complete 3
+    ∷ line 5 (0x69 ∷ []) (Refusal 5) 1
+    ∷ line 4 (0x41 ∷ 0x03 ∷ []) (Refusal 5) 2
+    ∷ line 4 (0x41 ∷ 0x02 ∷ 0x41 ∷ 0x80 ∷ []) (Refusal 6) 4
+    ∷ line 6 (0x01 ∷ 0x02 ∷ 0x41 ∷ 0x01 ∷ []) (Refusal 5) 4
+    ∷ line 8 (0x01 ∷ 0x02 ∷ 0xB1 ∷ 0x02 ∷ []) (Refusal 3) 4
+    ∷ line 4 (0x00 ∷ []) (Refusal 2) 1
+    ∷ line 4 (0xFD ∷ []) (Refusal 1) 1
+    ∷ line 4 (0xFC ∷ []) (Refusal 1) 1
+    ∷ leanLine 5 (0x43 ∷ 0x00 ∷ 0x00 ∷ 0x01 ∷ 0x41 ∷ []) (one (plain A (0x41 ∷ []))) (0x41 ∷ 0x01 ∷ 0x41 ∷ [])
+    ∷ leanLine 3 (0x25 ∷ 0x01 ∷ 0x07 ∷ []) (one (plain BOOLEAN (0x07 ∷ []))) (0x25 ∷ 0x01 ∷ 0x01 ∷ [])
+    ∷ []
+
+-- the bytes spell this tree, its lean form is the one given, and the call writes it
+abbrev pub LeanRight : LeanForm → List ℕ → Type 0
+LeanRight not-given b = Unit {0}
+LeanRight (given w l) b =
+    Says good w b × (leanOf w ≡ l)
+    × ((rows out : List ℕ) → 3 ≤ length rows → length l ≤ length out
+        → (writeLean b rows out .0 ≡ Is (length l)) × (writeLean b rows out .2 ≡ l ++ drop (length l) out))
+
+-- a fresh reader that is told N and fed the bytes answers so, and has consumed them through that byte
+abbrev pub Right : Line → Type 0
+Right l =
+    (fedOf (readerOf (fresh (l .size))) (l .bytes) .answer ≡ l .answer)
+    × (fedOf (readerOf (fresh (l .size))) (l .bytes) .consumed ≡ l .at)
+    × LeanRight (l .lean) (l .bytes)
+
+abbrev pub AllRight : List Line → Type 0
+AllRight [] = Unit {0}
+AllRight (l ∷ ls) = Right l × AllRight ls
