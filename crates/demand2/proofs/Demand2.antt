@@ -2,7 +2,7 @@
 use Prim.Native.Nat.{ℕ, _+_, _*_, _%_, _≤_, _<_}
 use mathlib.Core.Path.{_≡_, refl, sym, ap, subst, _∙_}
 use mathlib.Core.Bool.{Bool, true, false, cond}
-use mathlib.Core.List.{List, [], _++_}
+use mathlib.Core.List.{List, _++_}
 use mathlib.Core.Logic.{_↔_}
 use native.Mathlib.Omega.{arith}
 use borrow.Author.Tests.{eq-eqb, ne-eqb, le-leb, lt-leb, eqb-true, leb-true}
@@ -16,7 +16,8 @@ use Rattle.item.specs.Item.{Tree, good, lean, Content, Says, Good, Lean, meanin
 use Rattle.item.proofs.Codes.{plain-not-list}
 use Rattle.item.proofs.Laws as laws
 use Rattle.item.proofs.Reading as reading
-use Rattle.rows.specs.Row.{Each, rowsOf, tableOf, partAt, textOf}
+use Rattle.wire.specs.Each.{Each}
+use Rattle.rows.specs.Row.{rowsOf, tableOf, partAt, textOf}
 use Rattle.rows.specs.Rows.{Has, rowsOfText, rowsIn}
 use Rattle.rows.specs.declared.Row.{Row}
 use Rattle.rows.proofs.Tables.{table-length, rows-table}

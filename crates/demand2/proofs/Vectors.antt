@@ -1,23 +1,22 @@
 -- Document 01's starred byte lines hold, in one statement over their table: the checker computes each answer, and each lean form from the tree that the bytes spell, which is what the call writes.
-use Prim.Native.Nat.{ℕ, _≤_}
+use Prim.Native.Nat.{ℕ}
 use mathlib.Core.Path.{_≡_, refl, ap, _∙_}
 use mathlib.Core.List.{List, [], _∷_, _++_}
 use native.Mathlib.Omega.{arith}
 use lib.ListN.{length, drop, length-append}
+use Rattle.wire.specs.Each.{Each}
 use Rattle.wire.specs.Number.{numberOf, bytesOf}
 use Rattle.item.specs.Code.{A, BOOLEAN, kindOf, allowed, largest}
-use Rattle.item.specs.Item.{plain, Tree, one, good, fewest, Lengths, Content, header, Says, told, leanItem, leanOf}
+use Rattle.item.specs.Item.{plain, one, good, fewest, Lengths, Content, header, Says, told, leanItem, leanOf}
 use Rattle.levels.specs.Levels.{total, leaving, stackOf, levelsOf, cleanOf}
 use Rattle.follow.specs.Fits.{fitsItems, fitsList, fitsPlain, fitsLengths}
-use Rattle.reader.specs.State.{readerOf, fresh}
+use Rattle.reader.specs.State.{fresh}
 use Rattle.reader.specs.Step.{known, atFormat, atList, atPlain, atLength, atContent, stepAt, step}
 use Rattle.reader.specs.Feed.{allowsPhase, allowsFrame, allowsEnd, allows, status, eat, fedOf}
-use Rattle.reader.specs.declared.Answer.{Answer}
-use Rattle.reader.specs.declared.Answer.the-variants.{Complete, Refusal}
 use Rattle.rows.specs.Rows.{itemRows}
 use Rattle.wire.specs.declared.Counted.{Counted}
 use Rattle.wire.specs.declared.Counted.the-variants.{Is}
-use Rattle.demand2.specs.Starred.{given, LeanRight, table, AllRight}
+use Rattle.demand2.specs.Starred.{given, LeanRight, Right, table}
 use Rattle.demand2.proofs.Demand2.{in-one-call}
 
 -- an item of one content byte, under length bytes that say 1, and its lean form
@@ -36,7 +35,7 @@ one-byte c b ls l lens con e =
     )
 
 -- THE STARRED LINES HOLD.
-pub starred : AllRight table
+pub starred : Each Right table
 unfolding numberOf bytesOf kindOf allowed largest fewest told leanItem total leaving stackOf levelsOf cleanOf fitsItems fitsList fitsPlain fitsLengths fresh known atFormat atList atPlain atLength atContent stepAt step allowsPhase allowsFrame allowsEnd allows status eat fedOf
 starred = (
   (refl, refl, tt),

@@ -57,7 +57,7 @@ LeanRight not-given b = Unit {0}
 LeanRight (given w l) b =
     Says good w b × (leanOf w ≡ l)
     × ((rows out : List ℕ) → 3 ≤ length rows → length l ≤ length out
-        → (writeLean b rows out .0 ≡ Is (length l)) × (writeLean b rows out .2 ≡ l ++ drop (length l) out))
+    → (writeLean b rows out .0 ≡ Is (length l)) × (writeLean b rows out .2 ≡ l ++ drop (length l) out))
 
 -- a fresh reader that is told N and fed the bytes answers so, and has consumed them through that byte
 abbrev pub Right : Line → Type 0
@@ -65,7 +65,3 @@ Right l =
     (fedOf (readerOf (fresh (l .size))) (l .bytes) .answer ≡ l .answer)
     × (fedOf (readerOf (fresh (l .size))) (l .bytes) .consumed ≡ l .at)
     × LeanRight (l .lean) (l .bytes)
-
-abbrev pub AllRight : List Line → Type 0
-AllRight [] = Unit {0}
-AllRight (l ∷ ls) = Right l × AllRight ls

@@ -1,5 +1,5 @@
 -- Demand 3, over every sequence of feeds from a fresh reader: the way that the reader goes along the bytes, read off at its end.
-use Prim.Native.Nat.{ℕ, suc, _≤_, _<_}
+use Prim.Native.Nat.{ℕ, _≤_}
 use mathlib.Core.Path.{_≡_, refl, sym, ap, subst, _∙_}
 use mathlib.Core.List.{List, [], _∷_, _++_, append-assoc, append-nil}
 use mathlib.Core.Logic.{_↔_}
@@ -16,7 +16,7 @@ use Rattle.reader.specs.declared.Phase.the-variants.{Format, Length, Content, R
 use Rattle.reader.specs.declared.Answer.{Answer}
 use Rattle.reader.specs.declared.Answer.the-variants.{More, Complete, Refusal}
 use Rattle.reader.proofs.Eats.{more-left}
-use Rattle.demand3.specs.Begins.{Begins, NumberBehind}
+use Rattle.demand3.specs.Begins.{Begins}
 use Rattle.demand3.specs.Feeds.{joined, feeds, answerTo}
 use Rattle.demand3.specs.Verdict.{Verdict, goes-on, complete, before-any, at-byte}
 use Rattle.demand3.proofs.Along.{Stands, Along, nothing, never, stands, falls, along-fresh}

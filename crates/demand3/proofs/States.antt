@@ -22,7 +22,7 @@ use Rattle.reader.specs.declared.Answer.the-variants.{More, Complete, Refusal}
 use Rattle.reader.proofs.Right.{Out, goes, ends, step-right, after-known}
 use Rattle.reader.proofs.Allowed.{Going, allows-held}
 use Rattle.reader.proofs.Eats.{end-complete}
-use Rattle.demand3.specs.Feeds.{joined, feeds}
+use Rattle.demand3.specs.Feeds.{joined, feeds, NotRefused}
 use Rattle.demand3.proofs.Along.{along-fresh}
 use Rattle.demand3.proofs.Feeding.{along-holds, feeds-go}
 use Rattle.demand3.proofs.Demand3.{complete-end, never-refused}
@@ -85,12 +85,18 @@ eats-up (b′ ∷ t) s b k live w = go (follow-step s b (b′ ∷ t) live w) (λ
         by Complete e (f, m) = absurd (omega (arith, ap length (complete-end (step s b .phase) (step s b .stack) (b′ ∷ t) (l .at) e (x .1))))
         by (Refusal y) e (f, m) = absurd (never-refused (step s b .phase) (step s b .stack) y (l .at) e)
 
+going : (p : Phase) → ((e : ℕ) → p ≡ Refused e → ⊥) → Going p
+going Format h = tt
+going (Length c j v) h = tt
+going (Content c l) h = tt
+going (Refused e) h = h e refl
+
 -- A state that the list allows, and that is not refused, is one that N less the bytes read more bytes complete.
-pub allowed-completes : (r : Reader) → length (r .awaited) ≡ 16 → allows r ≡ true → Going (r .phase)
+pub allowed-completes : (r : Reader) → length (r .awaited) ≡ 16 → allows r ≡ true → NotRefused r
     → (t : List ℕ) × (length t ≡ r .size - r .read) × AtMost 0xFF t × (fedOf r t .answer ≡ Complete)
 unfolding fedOf status
 allowed-completes r full a g =
-    let h = allows-held r full g a in
+    let h = allows-held r full (going (r .phase) g) a in
     let (t, w) = h .live .follows in
     go t w (h .live)
   where

@@ -8,7 +8,7 @@ use lib.Dec.{eqb, ltb}
 use lib.ListN.{length, length-append}
 use Rattle.wire.specs.Number.{AtMost}
 use Rattle.item.specs.Code.{L, allowed}
-use Rattle.item.specs.Item.{good, Good}
+use Rattle.item.specs.Item.{Good}
 use Rattle.reader.specs.State.{stateOf, readerOf, fresh}
 use Rattle.reader.specs.Step.{known}
 use Rattle.reader.specs.Feed.{status, fedOf}

@@ -5,6 +5,7 @@ ghost use Rattle.wire.specs.Lent.{outAfter};
 ghost use Rattle.frame.specs.Header.{headerBytes, headerOf, wOf, streamOf, dataHeader};
 ghost use Rattle.frame.specs.Frame.{lengthIn, lengthNumber, kindNumber, frameOf, writtenOf};
 use wire::Counted;
+use wire::LONGEST;
 
 // The ten header bytes of a frame, by name.
 pub struct Header {
@@ -99,7 +100,7 @@ pub fn length_number(n: usize) -> u32
     if n < 10 {
         return 10;
     }
-    if wire::LONGEST + 10 < n { 11 } else { 0 }
+    if LONGEST + 10 < n { 11 } else { 0 }
 }
 
 // The number of a frame's SType and length: 12, or 0 where they are in order.
@@ -117,7 +118,7 @@ pub fn write(h: Header, text: &[u8], out: &mut [u8]) -> Counted
     ensures { λ r. ⌜ (r ≡ writtenOf h (length (now (text .entry))) (length (now (out .entry)))) × (now (out .exit) ≡ outAfter r (frameOf h (now (text .entry))) (now (out .entry))) ⌝ }
 {
     let stype = h.stype;
-    if wire::LONGEST < text.len() {
+    if LONGEST < text.len() {
         return Counted::Refused(11);
     }
     let length = 10 + text.len();

@@ -71,6 +71,7 @@ eventAt (head bs) t = More
 eventAt (text n) t = Header (headerOf (drop 4 t)) n
 eventAt (refused e) t = Refusal e
 
+-- what a private function answers: one byte more of a head
 abbrev pub pushed : List ℕ → Fed
 pushed t = fed (eventAt (after t) t) 1 (after t)
 

@@ -7,6 +7,7 @@ ghost use Rattle.frame.specs.Frame.{lengthIn, lengthNumber};
 ghost use Rattle.frames.specs.State.{head, refused, holding, readerOf};
 ghost use Rattle.frames.specs.Feed.{allZero, allowsHead, allowsBare, refusalAllowed, allows, fed, pushed, eat, textFed, fedOf, endOf};
 ghost use Rattle.frames.specs.Asked.{Held};
+use wire::LONGEST;
 
 // Which bytes come next: of a frame's length and header, of its text, or none since it was refused.
 pub enum Phase {
@@ -131,7 +132,7 @@ pub fn allows_state(r: FrameReader) -> bool
     match phase {
         Phase::Head => allows_head(r),
         Phase::Text => if allows_bare(r) {
-            left <= wire::LONGEST
+            left <= LONGEST
         } else {
             false
         },

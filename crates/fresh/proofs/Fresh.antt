@@ -12,7 +12,7 @@ use lib.Dec.{eqb}
 use lib.ListN.{length, getD}
 use Rattle.wire.proofs.Choice.{both}
 use Rattle.slots.specs.Slots.{free, foundAt, isThere, runs}
-use Rattle.fresh.specs.Fresh.{isHeld, oneMore, firstOf, freshOf}
+use Rattle.fresh.specs.Fresh.{isHeld, oneMore, on, firstOf, freshOf}
 use Rattle.slots.specs.declared.Slot.{Slot}
 use Rattle.slots.specs.declared.Linktest.{Linktest}
 use Rattle.slots.specs.declared.Query.the-variants.{Named}
@@ -20,11 +20,6 @@ use Rattle.fresh.proofs.Pigeon.{no-one-to-one}
 use Rattle.slots.proofs.Found.{found-most, found-passes, named-system}
 
 -- ---- numbers in a row
-
--- one more, so many times
-unfoldable pub on : ℕ → ℕ → ℕ
-on zero n = n
-on (suc k) n = on k (oneMore n)
 
 pub one-more-is : (n : ℕ) → n < 2 ^ 32 → oneMore n ≡ (n + 1) % 2 ^ 32
 unfolding oneMore

@@ -16,6 +16,11 @@ isHeld own t n = cond (isThere (Named n) own) true (runs t n)
 unfoldable pub oneMore : ℕ → ℕ
 oneMore n = cond (eqb n (2 ^ 32 - 1)) 0 (n + 1)
 
+-- one more, so many times
+unfoldable pub on : ℕ → ℕ → ℕ
+on zero n = n
+on (suc k) n = on k (oneMore n)
+
 -- the first from n on that is not held, of so many numbers
 unfoldable pub firstOf : (ℕ → Bool) → ℕ → ℕ → ℕ
 firstOf held zero n = n

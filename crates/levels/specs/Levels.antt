@@ -71,7 +71,7 @@ sumOf l = total (stack l)
 unfoldable pub cleanOf : Levels → Bool
 cleanOf l = leb (l .level) 16 && eqb (total (drop (l .level) (l .awaited))) 0
 
--- levels of a stack of at most 16 counts
+-- what private functions ask of levels: they are those of a stack of at most 16 counts
 pub record Clean (l : Levels) : Type 0 where
   pub is : l ≡ levelsOf (stack l)
   pub few : l .level ≤ 16

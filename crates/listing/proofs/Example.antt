@@ -1,9 +1,7 @@
 -- Document 01's stream prints document 01's lines, to the byte: both sides compute to the same bytes.
-use Prim.Native.Nat.{ℕ}
-use mathlib.Core.List.{List, [], _∷_}
 use mathlib.Core.Path.{_≡_, refl}
 use Rattle.wire.specs.Number.{numberOf}
-use Rattle.item.specs.Code.{kindOf, allowed, largest, letters}
+use Rattle.item.specs.Code.{kindOf, allowed, largest}
 use Rattle.levels.specs.Levels.{total, leaving, stackOf, levelsOf, cleanOf}
 use Rattle.follow.specs.Fits.{fitsItems, fitsList, fitsPlain, fitsLengths}
 use Rattle.reader.specs.State.{fresh}
@@ -16,14 +14,10 @@ use Rattle.frames.specs.Feed.{headNumber, after, textFed, endOf, allows as allo
 use Rattle.lines.specs.Decimal.{spelled}
 use Rattle.lines.specs.Text.{fields, messageLine, itemLine, endLine}
 use Rattle.capture.specs.Capture.{freshLister, textByte, headerCame, settled, fedByte, byteTold, endedBy, lastLine}
+use Rattle.listing.specs.Example.{stream, lines}
 use Rattle.listing.specs.Listing.{bytePrinted, bytesPrinted, listingOf}
 
-abbrev pub stream : List ℕ
-stream = 0x00 ∷ 0x00 ∷ 0x00 ∷ 0x0C ∷ 0x00 ∷ 0x01 ∷ 0x81 ∷ 0x0D ∷ 0x00 ∷ 0x00 ∷ 0x00 ∷ 0x00 ∷ 0x00 ∷ 0x07 ∷ 0x01 ∷ 0x00 ∷ []
-
-abbrev pub lines : List ℕ
-lines = letters "M\t1\t0\t0\t129\t13\t7\t2\nI\t1\tL\t0\nE\t1\t16\n"
-
+-- DOCUMENT 01'S EXAMPLE.
 pub example : listingOf stream ≡ lines
 unfolding numberOf kindOf allowed largest total leaving stackOf levelsOf cleanOf fitsItems fitsList fitsPlain fitsLengths fresh known atFormat atList atPlain atLength atContent stepAt step allowsPhase allowsFrame allowsEnd allows status eat fedOf headerOf lengthNumber kindNumber readerOf stateOf headNumber after textFed endOf allowsFrames eatHead fedFrames spelled fields messageLine itemLine endLine freshLister textByte headerCame settled fedByte byteTold endedBy lastLine bytePrinted bytesPrinted listingOf
 example = refl

@@ -1,3 +1,4 @@
 pub mod Listing
 pub mod Piece
 pub mod Calls
+pub mod Example

@@ -22,7 +22,7 @@ frameNumber f =
 abbrev pub front : List ℕ → List ℕ
 front s = take (4 + lengthIn s) s
 
--- its size, 0 where append would not take it
+-- what a private function answers: its size, 0 where append would not take it
 unfoldable pub frontSize : List ℕ → ℕ
 frontSize s = cond (eqb (frameNumber (front s)) 0) (4 + lengthIn s) 0
 

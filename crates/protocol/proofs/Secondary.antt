@@ -27,7 +27,7 @@ use Rattle.table.specs.Table.{stepOf}
 use Rattle.table.specs.declared.Stepped.{Stepped}
 use Rattle.table.specs.declared.Event.{Event}
 use Rattle.table.specs.declared.Event.the-variants.{Received as onReceived}
-use Rattle.protocol.specs.Protocol.{delivers, answeredAt, ownOf, Awaits, Delivered}
+use Rattle.protocol.specs.Protocol.{delivers, answeredAt, ownOf, Awaits, Delivered, NotSwapped}
 use Rattle.protocol.proofs.Rows.{Answers, Does, stays, judges, links, carries, answers, step-does}
 
 -- ---- the primary that a secondary answers
@@ -99,8 +99,7 @@ module _ (s : Session) (e : Event) (h : Header) (r : Stepped) (size : length (s 
         silent = ap (λ (x : Stepped). x .send) (a .is);
       }
 
-  apart : (i j : ℕ) → i < 32 → (i ≡ j → ⊥) → ownOf s i .taken ≡ true → ownOf s i .system ≡ h .system
-      → (ownOf (r .session) i ≡ free) × (ownOf (r .session) j ≡ ownOf s j)
+  apart : NotSwapped s h r
   apart i j hi other ti e =
       let here : i ≡ at = sym (taken-place allowed i hi ti) ∙ ap (λ (n : ℕ). foundAt (Named n) own) e ∙ named in
       let after : (k : ℕ) → ownOf (r .session) k ≡ getD (set own at free) k free = λ k. ap (λ (x : Stepped). ownOf (x .session) k) (a .is) in (
@@ -116,9 +115,7 @@ module _ (s : Session) (text : List ℕ) (bytes : AtMost 0xFF text) (size : leng
       (h, a .event, delivered s e h (stepOf s e text) size a)
 
   -- TWO OPEN S1F1 NEVER SWAP REPLIES: the open own primary with the secondary's system bytes is closed, and whatever is at another place is as it was.
-  pub never-swapped : (h : Header) → stepOf s (onReceived (Data h)) text .number ≡ 31
-      → (i j : ℕ) → i < 32 → (i ≡ j → ⊥) → ownOf s i .taken ≡ true → ownOf s i .system ≡ h .system
-      → (ownOf (stepOf s (onReceived (Data h)) text .session) i ≡ free) × (ownOf (stepOf s (onReceived (Data h)) text .session) j ≡ ownOf s j)
+  pub never-swapped : (h : Header) → stepOf s (onReceived (Data h)) text .number ≡ 31 → NotSwapped s h (stepOf s (onReceived (Data h)) text)
   never-swapped h is i j hi other ti e =
       let (k, a) = does-answer s (onReceived (Data h)) text (stepOf s (onReceived (Data h)) text) bytes is (step-does s (onReceived (Data h)) text) in
       let z : onReceived (Data h) ≡ onReceived (Data k) = a .event in

@@ -98,6 +98,12 @@ pub record Delivered (s : Session) (h : Header) (r : Stepped) : Type 0 where
   pub closed : isThere (Named (h .system)) (r .session .device .own) ≡ false
   pub silent : r .send ≡ Nothing
 
+-- of two places of own primaries, the open one with the secondary's system bytes is closed, and whatever is at the other is as it was
+abbrev pub NotSwapped : Session → Header → Stepped → Type 0
+NotSwapped s h r =
+    (i j : ℕ) → i < 32 → (i ≡ j → ⊥) → ownOf s i .taken ≡ true → ownOf s i .system ≡ h .system
+    → (ownOf (r .session) i ≡ free) × (ownOf (r .session) j ≡ ownOf s j)
+
 -- ---- what is left open
 
 pub record NoneOpen (s : Session) : Type 0 where

@@ -9,10 +9,8 @@ use lib.Dec.{eqb, leb}
 use lib.ListN.{length, take, drop, replicate, length-append}
 use lib.Seq.{take-at, drop-at, take-append-le, drop-append-add}
 use Rattle.wire.specs.Number.{numberOf}
-use Rattle.wire.specs.declared.Counted.the-variants as C
 use Rattle.frame.specs.Frame.{lengthIn}
-use Rattle.outbox.specs.Outbox.{frameNumber, front, wholeFrom, holds, appendOf, appendAfter, nextNumber, nextOf, sizeOf, moved, dropOf}
-use Rattle.outbox.specs.declared.Dropped.the-variants as D
+use Rattle.outbox.specs.Outbox.{frameNumber, front, wholeFrom, holds, appendOf, nextNumber, nextOf, sizeOf, moved, dropOf}
 use Rattle.outbox.proofs.Fronts.{frame-fits, front-is}
 use Rattle.queues.specs.Queue.{Box, box, joined, bufferOf, usedOf, Frames, joins, Act, toControl, toData, dropNext, Boxes, boxes, acted, actedAll, Lent, lent, lentOf, called, calledAll, Kept, Appended, Handed, Gone}
 

@@ -10,7 +10,7 @@ use lib.ListN.{length}
 use Rattle.wire.specs.Longest.{longest}
 use Rattle.levels.specs.Levels.{total}
 use Rattle.follow.proofs.Exist.{awaited-of}
-use Rattle.reader.specs.State.{State, state, stateOf, readerOf, refused, fresh}
+use Rattle.reader.specs.State.{State, state, readerOf, refused, fresh}
 use Rattle.reader.specs.Feed.{allows, status, statusOf}
 use Rattle.reader.specs.declared.Phase.the-variants.{Format}
 use Rattle.reader.proofs.Rest.{Live}

@@ -1,6 +1,6 @@
 ghost use mathlib.Core.Path.{_≡_};
 ghost use mathlib.Core.Bool.{true};
-ghost use Prim.Native.Nat.{_+_, _*_, _-_, _^_, _≤_, _<_};
+ghost use Prim.Native.Nat.{_+_, _*_, _-_, _^_, _<_};
 ghost use Rattle.levels.specs.Levels.{stack, Clean};
 ghost use Rattle.reader.specs.State.{state, refused, fresh, stateOf, readerIn, readerOf};
 ghost use Rattle.reader.specs.Step.{known, whole, atFormat, atList, atPlain, atLength, atContent, step};
@@ -9,6 +9,7 @@ ghost use Rattle.reader.specs.Asked.{Spot, Ready};
 ghost use Rattle.item.specs.Code.{kindOf};
 use item::Kind;
 use levels::Levels;
+use wire::LONGEST;
 
 // What the next byte is. At least one length byte, or one content byte, is left in Length and Content.
 pub enum Phase {
@@ -329,7 +330,7 @@ fn allows_frame(r: Reader) -> bool
 {
     let n = r.size;
     let k = r.read;
-    if wire::LONGEST < n {
+    if LONGEST < n {
         return false;
     }
     if n < k {
@@ -483,7 +484,7 @@ pub fn fresh_reader(n: usize) -> Reader
     if n == 1 {
         return refusal(n, 5);
     }
-    if wire::LONGEST < n {
+    if LONGEST < n {
         return refusal(n, 5);
     }
     reader_in(n, 0, levels::opened(levels::none(), 1), Phase::Format)

@@ -1,4 +1,4 @@
--- What a walk from format byte to format byte asks of a text, which a good text gives, and what writing asks of rows, which rows of a tree give.
+-- What private functions of text and writer ask of a text and of rows: no promise of a public function and no theorem cites it.
 use Prim.Native.Nat.{ℕ, zero, suc, _+_, _≤_, _<_}
 use mathlib.Core.List.{List, [], _∷_}
 use mathlib.Core.Path.{_≡_}

@@ -11,11 +11,6 @@ use Rattle.rows.specs.declared.Row.{Row}
 abbrev pub row : ℕ → ℕ → ℕ → Row
 row c n p = record { code = c; length = n; place = p }
 
--- each of these rows is so
-abbrev pub Each : (Row → Type 0) → List Row → Type 0
-Each P [] = Unit {0}
-Each P (r ∷ rs) = P r × Each P rs
-
 -- the rows of a table, three numbers a row, and the table of rows
 unfoldable pub rowsOf : List ℕ → List Row
 rowsOf [] = []

@@ -1,83 +1,83 @@
--- The frames handed out are the stream's: whatever state a run has come to, no whole frame is left in the rest.
-use Prim.Native.Nat.{ℕ, zero, suc, _+_, _-_, _≤_, _<_, min}
-use mathlib.Core.Path.{_≡_, refl, sym, ap, _∙_}
+-- The theorems of a stream: the frames handed out are its frames, its end has the number of where it ends, no reached state breaks the list, and a host's loop feeds all.
+use Prim.Native.Nat.{ℕ, suc, _+_, _-_, _≤_, min}
+use mathlib.Core.Path.{_≡_, refl, sym, ap, subst, _∙_}
 use mathlib.Core.Bool.{Bool, true, false, cond}
 use mathlib.Core.List.{List, [], _∷_, _++_, append-nil}
-use native.Mathlib.Nat.{mod-eq-of-lt}
 use native.Mathlib.Omega.{arith}
-use borrow.Author.Tests.{eq-eqb, eqb-true}
+use borrow.Author.Tests.{eqb-true}
 use lib.Dec.{eqb}
-use lib.ListN.{length, getD, length-append}
-use lib.Seq.{take-at}
-use Rattle.wire.specs.Longest.{longest}
-use Rattle.wire.specs.Number.{numberOf, bytesOf}
-use Rattle.wire.proofs.Numbers.{length-bytes, number-bytes}
-use Rattle.frame.specs.Header.{headerBytes}
-use Rattle.frame.specs.Frame.{lengthIn, kindNumber, frameOf}
-use Rattle.frame.specs.declared.Header.{Header}
-use Rattle.frame.proofs.Laws.{bytes-length, frame-length}
+use lib.ListN.{length}
 use Rattle.frames.specs.State.{State, head, text, refused, stateOf}
-use Rattle.frames.specs.Feed.{allows, after, fed, reached, eat, textFed, start, fedOf}
+use Rattle.frames.specs.Feed.{allows, after, fed, reached, eat, textFed, start, fedOf, endIn, endOf}
 use Rattle.frames.specs.declared.Event.the-variants.{More, Text, End, Refusal}
 use Rattle.frames.specs.declared.Fed.{Fed}
 use Rattle.frames.specs.declared.FrameReader.{FrameReader}
-use Rattle.streams.specs.Stream.{frame, all, Unfinished, Split}
-use Rattle.streams.specs.Handed.{wholeOf, feeds}
-use Rattle.streams.proofs.Once.{frame-says, split-once}
-use Rattle.streams.proofs.Heads.{Bad, at-length, at-header}
+use Rattle.frames.proofs.Held.{state-reader}
+use Rattle.streams.specs.Stream.{Frame, AllTaken, all, Unfinished, Split, WholeFrames, EndsInside, EndsWrong}
+use Rattle.streams.specs.Handed.{Run, wholeOf, feeds, fresh, AllBytes, HandedOut, Ends}
+use Rattle.streams.proofs.Once.{split-once}
 use Rattle.streams.proofs.Streams as streams
-use Rattle.streams.proofs.Streams.{Right, AllBytes, fresh, text-taken}
+use Rattle.streams.proofs.Rests.{Came, came, rest-none, none-rest, rest-inside, inside-rest, rest-wrong, wrong-rest, none-unfinished, inside-unfinished, wrong-unfinished, rest-unfinished}
 
--- fewer than 14 bytes are no frame
-short-unfinished : (bs : List ℕ) → length bs < 14 → Unfinished bs
-short-unfinished bs h f more t e =
-    omega (arith, ap length e, length-append (frameOf (f .header) (f .text)) more, frame-length (f .header) (f .text))
+module _ (ps : List (List ℕ)) (b : AllBytes ps) where
+  abbrev x : Run
+  x = feeds fresh ps
 
--- a frame of whose text some bytes are still to come is no whole one
-text-unfinished : (h : Header) (x : List ℕ) (n : ℕ) → length x + suc n ≤ longest → Unfinished (bytesOf 4 (10 + (length x + suc n)) ++ (headerBytes h ++ x))
-text-unfinished h x n few f more t e =
-    let m = 10 + (length x + suc n) in
-    let k = length-bytes 4 m in
-    let says : lengthIn (bytesOf 4 m ++ (headerBytes h ++ x)) ≡ m
-    = ap numberOf (take-at (bytesOf 4 m) (headerBytes h ++ x) 4 k) ∙ number-bytes 4 m ∙ mod-eq-of-lt (omega arith) in
-    omega (arith, says, ap lengthIn e, frame-says (f .header) (f .text) more (t .few), ap length e, length-append (bytesOf 4 m) (headerBytes h ++ x), k, length-append (headerBytes h) x, bytes-length h, length-append (frameOf (f .header) (f .text)) more, frame-length (f .header) (f .text))
+  -- No state that is reached breaks the list.
+  pub reached-allowed : allows (x .reader) ≡ true
+  reached-allowed =
+      let r = streams.reached ps b in
+      ap allows (r .reader-is) ∙ streams.right-allowed (x .bytes) (x .handed) (r .state) (r .right)
 
--- a length of 10 is right for every SType
-ten-right : (s n : ℕ) → n ≡ 10 → kindNumber s n ≡ 0
-unfolding kindNumber
-ten-right s n e = rw (eq-eqb n 10 e) (go (eqb s 0))
-  where
-    go : (b : Bool) → _≡_ {A = ℕ} (cond b 0 0) 0
-    go true = refl
-    go false = refl
+  came-to : Came (x .bytes) (x .handed) (stateOf (x .reader))
+  came-to =
+      let r = streams.reached ps b in
+      subst (Came (x .bytes) (x .handed)) (sym (ap stateOf (r .reader-is) ∙ state-reader (r .state))) (came (x .bytes) (x .handed) (r .state) (r .right))
 
-bad-unfinished : (t : List ℕ) (e : ℕ) → Bad t e → Unfinished t
-bad-unfinished t e (at-length n z s) f more a q = short-unfinished t (omega arith) f more a q
-bad-unfinished t e (at-header n z k s) f more a q =
-    let small : length (f .text) ≡ 0 = omega (arith, ap length q, length-append (frameOf (f .header) (f .text)) more, frame-length (f .header) (f .text)) in
-    let ten : lengthIn t ≡ 10 = ap lengthIn q ∙ frame-says (f .header) (f .text) more (a .few) ∙ omega arith in
-    s (sym k ∙ ten-right (getD t 9 0) (lengthIn t) ten)
+  split : Split (x .bytes) (wholeOf (x .handed) (stateOf (x .reader))) (came-to .rest)
+  split = record { taken = came-to .taken; is = came-to .is; unfinished = rest-unfinished (came-to .kind) }
 
--- THE FRAMES HANDED OUT ARE THE STREAM'S. For every way to feed a stream, the frames handed out, headers and texts, are in order those of the bytes
--- consumed, and bytes have one list of frames and one rest (Once: split-once): nothing of one message reaches another.
-pub frames-handed-out : (ps : List (List ℕ)) (b : AllBytes ps)
-    → (rest : List ℕ) × Split (feeds fresh ps .bytes) (wholeOf (feeds fresh ps .handed) (streams.reached ps b .state)) rest
-frames-handed-out ps b = go (streams.reached ps b .state) (streams.reached ps b .right)
-  where
-    go : (s : State) → Right (feeds fresh ps .bytes) (feeds fresh ps .handed) s → (rest : List ℕ) × Split (feeds fresh ps .bytes) (wholeOf (feeds fresh ps .handed) s) rest
-    go (head bs) r = (bs, record { taken = r .taken; is = r .is; unfinished = short-unfinished bs (r .begun .few) })
-    go (text zero) r =
-        let (t, e) = text-taken r in
-        ([], record { taken = t; is = e ∙ sym (append-nil (all (wholeOf (feeds fresh ps .handed) (text zero)))); unfinished = short-unfinished [] (omega arith) })
-    go (text (suc n)) r =
-        (_, record { taken = r .taken; is = r .is; unfinished = text-unfinished (r .header) (r .so-far) n (r .few) })
-    go (refused e) r = (r .last, record { taken = r .taken; is = r .is; unfinished = bad-unfinished (r .last) e (r .why) })
+  -- THE FRAMES HANDED OUT ARE THE STREAM'S. For every way to feed a stream, the frames handed out, headers and texts, are in order those of the bytes
+  -- consumed, and bytes have one list of frames and one rest (Once: split-once): nothing of one message reaches another. Where the reader is refused,
+  -- the rest is the number's cause.
+  pub frames-handed-out : HandedOut x
+  frames-handed-out = record { rest = came-to .rest; split = split; cause = came-to .cause }
 
--- No state that is reached breaks the list.
-pub reached-allowed : (ps : List (List ℕ)) → AllBytes ps → allows (feeds fresh ps .reader) ≡ true
-reached-allowed ps b =
-    let r = streams.reached ps b in
-    ap allows (r .reader-is) ∙ streams.right-allowed (feeds fresh ps .bytes) (feeds fresh ps .handed) (r .state) (r .right)
+  end-is : endOf (x .reader) ≡ endIn (stateOf (x .reader))
+  unfolding endOf
+  end-is = rw reached-allowed
+
+  -- another rest behind whole frames is this one
+  same-rest : (fs : List Frame) (rest : List ℕ) → AllTaken fs → x .bytes ≡ all fs ++ rest → Unfinished rest → came-to .rest ≡ rest
+  same-rest fs rest taken is unfinished = split-once (x .bytes) _ fs (came-to .rest) rest split (record { taken = taken; is = is; unfinished = unfinished }) .1
+
+  -- THE NUMBER OF THE STREAM'S END: 0 exactly where the bytes are whole frames, 13 exactly where they end inside one, and 10, 11 or 12 exactly for its cause.
+  pub ends : Ends x
+  ends = record { whole = (whole-is, is-whole); inside = (inside-is, is-inside); wrong = λ e h k. (wrong-is e h k, is-wrong e) }
+    where
+      whole-is : endOf (x .reader) ≡ 0 → WholeFrames (x .bytes)
+      whole-is e =
+          let z = none-rest (came-to .kind) (sym end-is ∙ e) in
+          (_, came-to .taken, came-to .is ∙ ap (λ (y : List ℕ). all (wholeOf (x .handed) (stateOf (x .reader))) ++ y) z ∙ append-nil _)
+
+      is-whole : WholeFrames (x .bytes) → endOf (x .reader) ≡ 0
+      is-whole (fs, t, i) = end-is ∙ rest-none (came-to .kind) (same-rest fs [] t (i ∙ sym (append-nil (all fs))) none-unfinished)
+
+      inside-is : endOf (x .reader) ≡ 13 → EndsInside (x .bytes)
+      inside-is e = (_, came-to .rest, came-to .taken, came-to .is, inside-rest (came-to .kind) (sym end-is ∙ e))
+
+      is-inside : EndsInside (x .bytes) → endOf (x .reader) ≡ 13
+      is-inside (fs, rest, t, i, k) =
+          let z = same-rest fs rest t i (inside-unfinished rest k) in
+          end-is ∙ rest-inside (came-to .kind) (rw z k)
+
+      wrong-is : (e : ℕ) → 10 ≤ e → e ≤ 12 → endOf (x .reader) ≡ e → EndsWrong (x .bytes) e
+      wrong-is e h k q = (_, came-to .rest, came-to .taken, came-to .is, wrong-rest (came-to .kind) e h k (sym end-is ∙ q))
+
+      is-wrong : (e : ℕ) → EndsWrong (x .bytes) e → endOf (x .reader) ≡ e
+      is-wrong e (fs, rest, t, i, w) =
+          let z = same-rest fs rest t i (wrong-unfinished rest e w) in
+          end-is ∙ rest-wrong (came-to .kind) e (rw z w)
 
 -- ---- what a host's loop stands on
 
@@ -110,7 +110,7 @@ start-more (text n) p e = go (eqb n 0) (eqb (length p) 0) refl e
     go true d f e = absurd (let z : _≡_ {A = ℕ} 0 1 = cc in omega arith)
     go false true f e = sym (eqb-true (length p) 0 f)
     go false false f e = absurd (let z : _≡_ {A = ℕ} 0 1 = cc in omega arith)
-start-more (refused x) p e = absurd (let z : _≡_ {A = ℕ} 0 1 = cc in omega arith)
+start-more (refused n) p e = absurd (let z : _≡_ {A = ℕ} 0 1 = cc in omega arith)
 
 -- With more the whole piece was consumed: a host that feeds what is left until it is answered more, or a refusal, has fed all.
 pub more-all : (r : FrameReader) (p : List ℕ) → fedOf r p .event ≡ More → fedOf r p .consumed ≡ length p

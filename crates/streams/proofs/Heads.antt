@@ -1,30 +1,56 @@
 -- A head is eaten byte by byte until it ends: 10 or 11 behind the fourth byte, 12 or a whole header behind the fourteenth. So long it may begin a frame.
 use Prim.Native.Nat.{ℕ, _+_, _-_, _≤_}
 use mathlib.Core.Path.{_≡_, refl, sym, ap, ap₂, subst, _∙_}
-use mathlib.Core.Bool.{Bool, true, false}
+use mathlib.Core.Bool.{Bool, true, false, cond}
 use mathlib.Core.List.{List, [], _∷_, _++_, append-assoc, append-nil}
 use mathlib.Core.Logic.{_⊎_, inl, inr}
 use native.Mathlib.Omega.{arith}
-use borrow.Author.Tests.{eqb-true, eqb-false}
-use lib.Dec.{eqb}
+use borrow.Author.Tests.{eqb-true, eqb-false, ltb-true}
+use lib.Dec.{eqb, ltb}
 use lib.ListN.{length, getD, length-append}
+use Rattle.wire.specs.Longest.{longest}
 use Rattle.frame.specs.Frame.{lengthIn, lengthNumber, kindNumber}
+use Rattle.frame.proofs.Laws.{length-range}
 use Rattle.frames.specs.State.{head, text, refused}
 use Rattle.frames.specs.Feed.{headNumber, after, fed, eventAt, reached, eat}
 use Rattle.frames.specs.Asked.{Begun}
 use Rattle.frames.proofs.Heads.{length-front, number-four, number-whole, number-other, after-refused, after-whole, after-more}
 use Rattle.frames.specs.declared.Event.the-variants.{More}
 use Rattle.frames.specs.declared.Fed.{Fed}
+use Rattle.streams.specs.Stream.{Wrong, too-short, too-long, other-length}
 
--- four bytes that say no frame's length, or a head whose SType asks for another length
-pub data Bad (t : List ℕ) (e : ℕ) : Type 0 where
-  at-length : length t ≡ 4 → lengthNumber (lengthIn t) ≡ e → (e ≡ 0 → ⊥) → Bad t e
-  at-header : length t ≡ 14 → lengthNumber (lengthIn t) ≡ 0 → kindNumber (getD t 9 0) (lengthIn t) ≡ e → (e ≡ 0 → ⊥) → Bad t e
+-- a length that has a number, and a kind that has one, are its cause
+length-wrong : (t : List ℕ) → length t ≡ 4 → (lengthNumber (lengthIn t) ≡ 0 → ⊥) → Wrong t (lengthNumber (lengthIn t))
+unfolding lengthNumber
+length-wrong t n = go (ltb (lengthIn t) 10) refl (ltb (10 + longest) (lengthIn t)) refl
+  where
+    number : Bool → Bool → ℕ
+    number a b = cond a 10 (cond b 11 0)
+
+    go : (a : Bool) → ltb (lengthIn t) 10 ≡ a → (b : Bool) → ltb (10 + longest) (lengthIn t) ≡ b → (number a b ≡ 0 → ⊥) → Wrong t (number a b)
+    go true e b f some = too-short n (ltb-true (lengthIn t) 10 e)
+    go false e true f some = too-long n (ltb-true (10 + longest) (lengthIn t) f)
+    go false e false f some = absurd (some refl)
+
+kind-wrong : (t : List ℕ) → length t ≡ 14 → lengthNumber (lengthIn t) ≡ 0 → (kindNumber (getD t 9 0) (lengthIn t) ≡ 0 → ⊥)
+    → Wrong t (kindNumber (getD t 9 0) (lengthIn t))
+unfolding kindNumber
+kind-wrong t n z = go (eqb (getD t 9 0) 0) refl (eqb (lengthIn t) 10) refl
+  where
+    number : Bool → Bool → ℕ
+    number a b = cond a 0 (cond b 0 12)
+
+    go : (a : Bool) → eqb (getD t 9 0) 0 ≡ a → (b : Bool) → eqb (lengthIn t) 10 ≡ b → (number a b ≡ 0 → ⊥) → Wrong t (number a b)
+    go true e b f some = absurd (some refl)
+    go false e true f some = absurd (some refl)
+    go false e false f some =
+        let range = length-range (lengthIn t) z in
+        other-length n (range .0) (range .1) (eqb-false (getD t 9 0) 0 e) (eqb-false (lengthIn t) 10 f)
 
 -- what the bytes of a head come to
 pub data Ended (t : List ℕ) : Type 0 where
   whole : length t ≡ 14 → lengthNumber (lengthIn t) ≡ 0 → kindNumber (getD t 9 0) (lengthIn t) ≡ 0 → after t ≡ text (lengthIn t - 10) → Ended t
-  bad : (e : ℕ) → Bad t e → after t ≡ refused e → Ended t
+  bad : (e : ℕ) → Wrong t e → after t ≡ refused e → Ended t
 
 module _ (bs : List ℕ) (b : ℕ) (begun : Begun bs) where
   abbrev t : List ℕ
@@ -49,7 +75,7 @@ module _ (bs : List ℕ) (b : ℕ) (begun : Begun bs) where
           inl (after-more t (number-four t e ∙ z) (λ k. omega arith), record { few = omega arith; length-ok = λ _. z })
       at-four e false q =
           let n = eqb-false (lengthNumber (lengthIn t)) 0 q in
-          inr (bad (lengthNumber (lengthIn t)) (at-length e refl n) (refused-with (number-four t e) n))
+          inr (bad (lengthNumber (lengthIn t)) (length-wrong t e n) (refused-with (number-four t e) n))
 
       at-all : length t ≡ 14 → (c : Bool) → eqb (kindNumber (getD t 9 0) (lengthIn t)) 0 ≡ c → ((after t ≡ head t) × Begun t) ⊎ Ended t
       at-all e true q =
@@ -57,7 +83,8 @@ module _ (bs : List ℕ) (b : ℕ) (begun : Begun bs) where
           inr (whole e (says (omega (arith, one-more))) z (after-whole t (number-whole t e ∙ z) e))
       at-all e false q =
           let n = eqb-false (kindNumber (getD t 9 0) (lengthIn t)) 0 q in
-          inr (bad (kindNumber (getD t 9 0) (lengthIn t)) (at-header e (says (omega (arith, one-more))) refl n) (refused-with (number-whole t e) n))
+          let z = says (omega (arith, one-more)) in
+          inr (bad (kindNumber (getD t 9 0) (lengthIn t)) (kind-wrong t e z n) (refused-with (number-whole t e) n))
 
       go : (c : Bool) → eqb (length t) 4 ≡ c → (d : Bool) → eqb (length t) 14 ≡ d → ((after t ≡ head t) × Begun t) ⊎ Ended t
       go true e d f = at-four (eqb-true (length t) 4 e) (eqb (lengthNumber (lengthIn t)) 0) refl

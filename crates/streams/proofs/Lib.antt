@@ -1,4 +1,5 @@
 pub mod Once
 pub mod Heads
 pub mod Streams
+pub mod Rests
 pub mod Frames

@@ -24,9 +24,9 @@ use Rattle.frames.proofs.Heads.{length-front}
 use Rattle.frames.proofs.Held.{state-reader}
 use Rattle.frames.specs.declared.Fed.{Fed}
 use Rattle.frames.specs.declared.FrameReader.{FrameReader}
-use Rattle.streams.specs.Stream.{Frame, frame, AllTaken, all}
-use Rattle.streams.specs.Handed.{Current, none, opened, Handed, nothing, closed, after, Run, run, fedMore, feeds}
-use Rattle.streams.proofs.Heads.{Bad, at-length, at-header, whole, bad, Ate, on, off, eat-ate}
+use Rattle.streams.specs.Stream.{Frame, frame, AllTaken, all, Wrong, too-short, too-long, other-length}
+use Rattle.streams.specs.Handed.{Current, none, opened, Handed, closed, after, Run, fedMore, feeds, fresh, AllBytes}
+use Rattle.streams.proofs.Heads.{whole, bad, Ate, on, off, eat-ate}
 
 -- ---- what is known in each state of the bytes c consumed and of what was handed out
 
@@ -53,7 +53,7 @@ pub record InRefused (c : List ℕ) (g : Handed) (e : ℕ) : Type 0 where
   pub taken : AllTaken (g .done)
   pub last : List ℕ
   pub is : c ≡ all (g .done) ++ last
-  pub why : Bad last e
+  pub cause : Wrong last e
 
 abbrev pub Right : List ℕ → Handed → State → Type 0
 Right c g (head bs) = InHead c g bs
@@ -66,20 +66,10 @@ zeros : (n : ℕ) → allZero (replicate n 0) ≡ true
 zeros zero = refl
 zeros (suc n) = zeros n
 
-bad-range : (t : List ℕ) (e : ℕ) → Bad t e → (10 ≤ e) × (e ≤ 12)
-unfolding lengthNumber kindNumber
-bad-range t e (at-length n z s) = go (ltb (lengthIn t) 10) (ltb (10 + longest) (lengthIn t)) z
-  where
-    go : (a b : Bool) → _≡_ {A = ℕ} (cond a 10 (cond b 11 0)) e → (10 ≤ e) × (e ≤ 12)
-    go true b q = (omega arith, omega arith)
-    go false true q = (omega arith, omega arith)
-    go false false q = absurd (s (sym q))
-bad-range t e (at-header n z k s) = go (eqb (getD t 9 0) 0) (eqb (lengthIn t) 10) k
-  where
-    go : (a b : Bool) → _≡_ {A = ℕ} (cond a 0 (cond b 0 12)) e → (10 ≤ e) × (e ≤ 12)
-    go true b q = absurd (s (sym q))
-    go false true q = absurd (s (sym q))
-    go false false q = (omega arith, omega arith)
+pub wrong-range : (t : List ℕ) (e : ℕ) → Wrong t e → (10 ≤ e) × (e ≤ 12)
+wrong-range t e (too-short n h) = (omega arith, omega arith)
+wrong-range t e (too-long n h) = (omega arith, omega arith)
+wrong-range t e (other-length n h k s m) = (omega arith, omega arith)
 
 head-allowed : (bs : List ℕ) → Begun bs → allows (readerOf (head bs)) ≡ true
 unfolding allows readerOf
@@ -99,7 +89,7 @@ unfolding allows readerOf
 right-allowed c g (head bs) r = head-allowed bs (r .begun)
 right-allowed c g (text n) r = le-leb n longest (omega (arith, r .few))
 right-allowed c g (refused e) r =
-    let k = bad-range (r .last) e (r .why) in
+    let k = wrong-range (r .last) e (r .cause) in
     rw (le-leb 10 e (k .0), le-leb e 12 (k .1))
 
 fed-is : (c : List ℕ) (g : Handed) (s : State) (p : List ℕ) → Right c g s → fedOf (readerOf s) p ≡ start s p
@@ -203,12 +193,12 @@ module _ (c : List ℕ) (g : Handed) (p : List ℕ) (b : AtMost 0xFF p) where
           kind = ap₂ kindNumber (stype-is t) (sym m) ∙ k;
         },
       )
-  head-next bs r f (off u v q e (bad x why to)) =
+  head-next bs r f (off u v q e (bad x cause to)) =
       let took : take (0 + length u) p ≡ u = ap₂ take (zero-add (length u)) q ∙ take-at u v (length u) refl in
       rw (e, to) (
         refused x,
         refl,
-        record { none-open = r .none-open; taken = r .taken; last = bs ++ u; is = behind c (all (g .done)) bs u p (0 + length u) (r .is) took; why = why },
+        record { none-open = r .none-open; taken = r .taken; last = bs ++ u; is = behind c (all (g .done)) bs u p (0 + length u) (r .is) took; cause = cause },
       )
 
   -- text bytes go to the open frame; its end closes it
@@ -265,7 +255,7 @@ module _ (c : List ℕ) (g : Handed) (p : List ℕ) (b : AtMost 0xFF p) where
   next (head bs) r = head-next bs r (eat bs 0 p) (eat-ate p bs 0 (r .begun))
   next (text n) r = text-next n r
   next (refused e) r =
-      (refused e, refl, record { none-open = r .none-open; taken = r .taken; last = r .last; is = append-nil c ∙ r .is; why = r .why })
+      (refused e, refl, record { none-open = r .none-open; taken = r .taken; last = r .last; is = append-nil c ∙ r .is; cause = r .cause })
 
 -- ---- a sequence of feeds
 
@@ -274,10 +264,6 @@ pub record Reached (x : Run) : Type 0 where
   pub state : State
   pub reader-is : x .reader ≡ readerOf state
   pub right : Right (x .bytes) (x .handed) state
-
-abbrev pub AllBytes : List (List ℕ) → Type 0
-AllBytes [] = Unit {0}
-AllBytes (p ∷ ps) = AtMost 0xFF p × AllBytes ps
 
 fed-reached : (x : Run) (p : List ℕ) → AtMost 0xFF p → Reached x → Reached (fedMore x p)
 fed-reached x p b r =
@@ -288,10 +274,6 @@ fed-reached x p b r =
 feeds-reached : (ps : List (List ℕ)) (x : Run) → AllBytes ps → Reached x → Reached (feeds x ps)
 feeds-reached [] x b r = r
 feeds-reached (p ∷ ps) x (b, bs) r = feeds-reached ps (fedMore x p) bs (fed-reached x p b r)
-
--- a fresh reader, of which nothing was asked yet
-abbrev pub fresh : Run
-fresh = run [] nothing (readerOf (head []))
 
 pub reached : (ps : List (List ℕ)) → AllBytes ps → Reached (feeds fresh ps)
 unfolding all

@@ -1,13 +1,16 @@
--- What was handed out: whole frames, and the frame that is open, with its text so far.
-use Prim.Native.Nat.{ℕ, zero, suc}
+-- What feeds hand out, whole frames and the frame that is open with its text so far, and what a run of them comes to.
+use Prim.Native.Nat.{ℕ, zero, suc, _≤_}
 use mathlib.Core.List.{List, [], _∷_, _++_}
+use mathlib.Core.Logic.{_↔_}
+use mathlib.Core.Path.{_≡_}
 use lib.ListN.{take}
-use Rattle.frames.specs.State.{State, head, text, refused}
-use Rattle.frames.specs.Feed.{fedOf}
+use Rattle.wire.specs.Number.{AtMost}
+use Rattle.frames.specs.State.{State, head, text, refused, readerOf, stateOf}
+use Rattle.frames.specs.Feed.{fedOf, endOf}
 use Rattle.frames.specs.declared.Event.{Event}
 use Rattle.frames.specs.declared.Event.the-variants.{More, Header, Text, End, Refusal}
 use Rattle.frames.specs.declared.FrameReader.{FrameReader}
-use Rattle.streams.specs.Stream.{Frame, frame}
+use Rattle.streams.specs.Stream.{Frame, frame, Split, WholeFrames, EndsInside, Wrong, EndsWrong}
 
 pub data Current : Type 0 where
   none : Current
@@ -63,3 +66,25 @@ fedMore x p =
 abbrev pub feeds : Run → List (List ℕ) → Run
 feeds x [] = x
 feeds x (p ∷ ps) = feeds (fedMore x p) ps
+
+-- a fresh reader, to which nothing was fed
+abbrev pub fresh : Run
+fresh = run [] nothing (readerOf (head []))
+
+abbrev pub AllBytes : List (List ℕ) → Type 0
+AllBytes [] = Unit {0}
+AllBytes (p ∷ ps) = AtMost 0xFF p × AllBytes ps
+
+-- ---- what a run comes to
+
+-- the frames handed out are those of the bytes consumed; where the reader is refused, their rest is the number's cause
+pub record HandedOut (x : Run) : Type 0 where
+  pub rest : List ℕ
+  pub split : Split (x .bytes) (wholeOf (x .handed) (stateOf (x .reader))) rest
+  pub cause : (e : ℕ) → stateOf (x .reader) ≡ refused e → Wrong rest e
+
+-- the number of the stream's end, by where the bytes consumed end
+pub record Ends (x : Run) : Type 0 where
+  pub whole : (endOf (x .reader) ≡ 0) ↔ WholeFrames (x .bytes)
+  pub inside : (endOf (x .reader) ≡ 13) ↔ EndsInside (x .bytes)
+  pub wrong : (e : ℕ) → 10 ≤ e → e ≤ 12 → (endOf (x .reader) ≡ e) ↔ EndsWrong (x .bytes) e

@@ -15,7 +15,8 @@ use Rattle.item.specs.declared.Kind.the-variants as K
 use Rattle.item.proofs.Codes.{plain-not-list, list-code}
 use Rattle.levels.specs.Levels.{began, leaving}
 use Rattle.levels.proofs.Laws.{leaving-some}
-use Rattle.rows.specs.Row.{Each, rowsOf, partAt, inside}
+use Rattle.wire.specs.Each.{Each}
+use Rattle.rows.specs.Row.{rowsOf, partAt, inside}
 use Rattle.rows.specs.Rows.{HasItem, HasAll, Has}
 use Rattle.rows.specs.declared.Row.{Row}
 use Rattle.rows.specs.Asked.{Fits}

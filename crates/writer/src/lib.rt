@@ -9,7 +9,8 @@ ghost use Rattle.wire.specs.Longest.{longest};
 ghost use Rattle.item.specs.Code.{L, BOOLEAN};
 ghost use Rattle.item.specs.Item.{truth, told, leanHeader};
 ghost use Rattle.levels.specs.Levels.{stack, levelsOf, Clean};
-ghost use Rattle.rows.specs.Row.{row, Each, rowsOf, rowText, textOf, sizeOf};
+ghost use Rattle.wire.specs.Each.{Each};
+ghost use Rattle.rows.specs.Row.{row, rowsOf, rowText, textOf, sizeOf};
 ghost use Rattle.rows.specs.Rows.{rowsIn};
 ghost use Rattle.rows.specs.Asked.{Fits};
 ghost use Rattle.writer.specs.Writing.{atMost, listNumber, contentNumber, rowNumber, levelsBehind, judgedFrom, tableNumber, writtenOf, leanedOf, rowsAfter};
@@ -19,6 +20,7 @@ use levels::Levels;
 use rows::Row;
 use text::Measured;
 use wire::Counted;
+use wire::LONGEST;
 
 // The row that begins with the table's number i.
 fn row_in(table: &[u32], i: usize) -> Row
@@ -147,8 +149,8 @@ fn text_size(table: &[u32]) -> usize
     let mut i: usize = 0;
     while 3 <= table.len() - i {
         size += rows::lean_size(table[i], table[i + 1]);
-        if wire::LONGEST < size {
-            return wire::LONGEST + 1;
+        if LONGEST < size {
+            return LONGEST + 1;
         }
         i += 3;
     }
@@ -236,7 +238,7 @@ pub fn write(table: &[u32], content: &[u8], out: &mut [u8]) -> Counted
         return Counted::Refused(number);
     }
     let size = text_size(table);
-    if wire::LONGEST < size {
+    if LONGEST < size {
         return Counted::Refused(18);
     }
     if out.len() < size {
