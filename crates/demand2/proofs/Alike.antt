@@ -28,14 +28,14 @@ module _ (s t : List ℕ) where
         both rs (r ∷ []) qs (q ∷ []) e e′ (
           record {
             code = k ∙ sym k′;
-            length = sym (ap length is ∙ part-length s r within) ∙ sym (told-length c x) ∙ ap length is′ ∙ part-length t q within′;
+            same-length = sym (ap length is ∙ part-length s r within) ∙ sym (told-length c x) ∙ ap length is′ ∙ part-length t q within′;
             content = λ _. rw (k, k′, ← is, ← is′) (sym (told-told c x));
           },
           tt,
         )
     item-alike (list is) d rs qs (r, ms, e, k, n, all, deep) (q, ms′, e′, k′, n′, all′, deep′) =
         both rs (r ∷ ms) qs (q ∷ ms′) e e′ (
-          record { code = k ∙ sym k′; length = n ∙ sym (count-meanings is) ∙ sym n′; content = λ h. absurd (h k) },
+          record { code = k ∙ sym k′; same-length = n ∙ sym (count-meanings is) ∙ sym n′; content = λ h. absurd (h k) },
           items-alike is (suc d) ms ms′ all all′,
         )
 

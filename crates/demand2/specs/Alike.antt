@@ -10,7 +10,7 @@ use Rattle.rows.specs.declared.Row.{Row}
 -- r with its content in s, and q with its content in t
 pub record Alike (s : List ℕ) (r : Row) (t : List ℕ) (q : Row) : Type 0 where
   pub code : r .code ≡ q .code
-  pub length : r .length ≡ q .length
+  pub same-length : r .length ≡ q .length
   pub content : (r .code ≡ L → ⊥) → told (r .code) (partAt s r) ≡ told (q .code) (partAt t q)
 
 abbrev pub AllAlike : List ℕ → List Row → List ℕ → List Row → Type 0

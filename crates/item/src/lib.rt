@@ -16,7 +16,7 @@ pub fn kind_of(code: u32) -> Kind
     ensures { λ r. ⌜ r ≡ kindOf code ⌝ }
 {
     match code {
-        0o00 => Kind::List,
+        L => Kind::List,
         0o10 | 0o20 | 0o31 | 0o51 => Kind::Plain(1),
         0o11 | 0o21 => Kind::Plain(1),
         0o32 | 0o52 => Kind::Plain(2),
@@ -33,7 +33,7 @@ pub fn name_of(code: u32) -> Name
     ensures { λ r. ⌜ r ≡ nameOf code ⌝ }
 {
     match code {
-        0o00 => Name(*b"L\0\0\0\0\0\0", 1),
+        L => Name(*b"L\0\0\0\0\0\0", 1),
         0o10 => Name(*b"B\0\0\0\0\0\0", 1),
         0o11 => Name(*b"BOOLEAN", 7),
         0o20 => Name(*b"A\0\0\0\0\0\0", 1),
