@@ -1,4 +1,4 @@
--- Demand 2, of what the calls promise: a good text's rows are its tree's and stand for its lean form; rows that are written are a tree's, and what is written says that tree's meaning.
+-- Demand 2, of what the calls promise: a good text's rows are its tree's and stand for its lean form; what is written says the meaning of the rows' tree.
 use Prim.Native.Nat.{ℕ, _+_, _*_, _%_, _≤_, _<_}
 use mathlib.Core.Path.{_≡_, refl, sym, ap, subst, _∙_}
 use mathlib.Core.Bool.{Bool, true, false, cond}
@@ -51,9 +51,11 @@ module _ (table s out : List ℕ) (w : Tree) (whole : length table % 3 ≡ 0) (h
   used = tree-written table s (length out) w whole has
 
   -- Rows of a tree are written as its lean form, and the bytes used are that form's; 18 where it is above 32,000 bytes, then 17 where the output is shorter.
-  pub writes-lean : length (leanOf w) ≤ longest → length (leanOf w) ≤ length out → write table s out ≡ (Is (length (leanOf w)), leanOf w ++ drop (length (leanOf w)) out)
+  pub writes-lean : length (leanOf w) ≤ longest → length (leanOf w) ≤ length out
+      → write table s out ≡ (Is (length (leanOf w)), leanOf w ++ drop (length (leanOf w)) out)
   writes-lean few room =
-      let e : writtenOf table s (length out) ≡ Is (length (leanOf w)) = used ∙ rw (le-leb (length (leanOf w)) longest few, le-leb (length (leanOf w)) (length out) room) in
+      let e : writtenOf table s (length out) ≡ Is (length (leanOf w))
+      = used ∙ rw (le-leb (length (leanOf w)) longest few, le-leb (length (leanOf w)) (length out) room) in
       rw (e, tree-text w s (rowsOf table) has)
 
   pub too-long : longest < length (leanOf w) → write table s out ≡ (Refused 18, out)
@@ -133,14 +135,17 @@ module _ (t : List ℕ) (w : Tree) (s : Says good w t) where
 
   -- The same in one call, which answers both.
   pub in-one-call : (table out : List ℕ) → 3 * length (rowsOfText w t s) ≤ length table → length (leanOf w) ≤ length out
-      → writeLean t table out ≡ (Is (length (leanOf w)), tableOf (rowsOfText w t s) ++ drop (3 * length (rowsOfText w t s)) table, leanOf w ++ drop (length (leanOf w)) out)
+      → writeLean t table out
+      ≡ (Is (length (leanOf w)), tableOf (rowsOfText w t s) ++ drop (3 * length (rowsOfText w t s)) table, leanOf w ++ drop (length (leanOf w)) out)
   unfolding leanedOf
   in-one-call table out room fits = rw (← rows-are) (go (subst (λ (rs : List Row). 3 * length rs ≤ length table) (sym rows-are) room))
     where
       go : 3 * length (rowsIn t) ≤ length table
           → writeLean t table out ≡ (Is (length (leanOf w)), tableOf (rowsIn t) ++ drop (3 * length (rowsIn t)) table, leanOf w ++ drop (length (leanOf w)) out)
       go room =
-          rw (eq-eqb (judgedOf t) 0 judged, le-leb (3 * length (rowsIn t)) (length table) room, tree-size w t (rowsIn t) (text-has t w s), le-leb (length (leanOf w)) (length out) fits, tree-text w t (rowsIn t) (text-has t w s))
+          let size = tree-size w t (rowsIn t) (text-has t w s) in
+          let fit = le-leb (length (leanOf w)) (length out) fits in
+          rw (eq-eqb (judgedOf t) 0 judged, le-leb (3 * length (rowsIn t)) (length table) room, size, fit, tree-text w t (rowsIn t) (text-has t w s))
 
   -- and it equals the text exactly when the text was lean
   pub equal-when-lean : Lean t ↔ (t ≡ leanOf w)
@@ -165,14 +170,20 @@ record Answered (table s : List ℕ) (n : ℕ) : Type 0 where
 
 answered : (table s : List ℕ) (room n : ℕ) → writtenOf table s room ≡ Is n → Answered table s n
 unfolding writtenOf tableNumber
-answered table s room n e = go (eqb (length table % 3) 0) refl (eqb (rowsNumber s (rowsOf table)) 0) refl (leb (length (textOf s (rowsOf table))) longest) refl (leb (length (textOf s (rowsOf table))) room) e
+answered table s room n e = go (eqb (length table % 3) 0) refl (eqb (rowsNumber s (rowsOf table)) 0) refl (leb size longest) refl (leb size room) e
   where
+    size : ℕ
+    size = length (textOf s (rowsOf table))
+
+    number : Bool → ℕ
+    number a = cond a (rowsNumber s (rowsOf table)) 15
+
     clash : (k : ℕ) → Refused k ≡ Is n → Answered table s n
     clash k q = let z : _≡_ {A = ℕ} 0 1 = cc in absurd (omega arith)
 
     go : (a : Bool) → eqb (length table % 3) 0 ≡ a → (b : Bool) → eqb (rowsNumber s (rowsOf table)) 0 ≡ b
-        → (c : Bool) → leb (length (textOf s (rowsOf table))) longest ≡ c → (d : Bool)
-        → cond (eqb (cond a (rowsNumber s (rowsOf table)) 15) 0) (cond c (cond d (Is (length (textOf s (rowsOf table)))) (Refused 17)) (Refused 18)) (Refused (cond a (rowsNumber s (rowsOf table)) 15)) ≡ Is n
+        → (c : Bool) → leb size longest ≡ c → (d : Bool)
+        → cond (eqb (number a) 0) (cond c (cond d (Is size) (Refused 17)) (Refused 18)) (Refused (number a)) ≡ Is n
         → Answered table s n
     go false f b g c h d q = clash 15 q
     go true f false g c h d q = clash _ (rw g at q)
@@ -180,7 +191,12 @@ answered table s room n e = go (eqb (length table % 3) 0) refl (eqb (rowsNumber 
     go true f true g true h false q = clash 17 (rw g at q)
     go true f true g true h true q =
         let r = rw g at q in
-        record { whole = eqb-true (length table % 3) 0 f; taken = eqb-true (rowsNumber s (rowsOf table)) 0 g; few = leb-true (length (textOf s (rowsOf table))) longest h; is = cc }
+        record {
+          whole = eqb-true (length table % 3) 0 f;
+          taken = eqb-true (rowsNumber s (rowsOf table)) 0 g;
+          few = leb-true size longest h;
+          is = cc;
+        }
 
 -- WRITE, THEN READ.
 pub write-then-read : (table s out : List ℕ) (n : ℕ) → write table s out .0 ≡ Is n → Back table s out n
@@ -191,7 +207,8 @@ write-then-read table s out n e =
     let is = tree-text w s (rowsOf table) h in
     let l : Says lean (meaningOf w) x = subst (Says lean (meaningOf w)) (sym is) (tree-spells w s (rowsOf table) h (omega (arith, a .few, ap length is))) in
     let g = laws.lean-is-good x (meaningOf w) l in
-    let back : Has x (meaningOf w) (rowsOfText (meaningOf w) x g) = subst (Has x (meaningOf w)) (text-walked (meaningOf w) x g .0) (text-has x (meaningOf w) g) in
+    let back : Has x (meaningOf w) (rowsOfText (meaningOf w) x g)
+    = subst (Has x (meaningOf w)) (text-walked (meaningOf w) x g .0) (text-has x (meaningOf w) g) in
     record {
       text = x;
       tree = w;
@@ -212,7 +229,8 @@ write-then-read table s out n e =
 pub equal-texts : (t t′ : List ℕ) (w w′ : Tree) → Says good w t → Says good w′ t′ → (meaningOf w ≡ meaningOf w′) ↔ (leanOf w ≡ leanOf w′)
 equal-texts = laws.equal-meanings
 
-pub equal-rows : (s s′ : List ℕ) (rs rs′ : List Row) (w w′ : Tree) → Has s w rs → Has s′ w′ rs′ → length (textOf s rs) ≤ longest → length (textOf s′ rs′) ≤ longest
+pub equal-rows : (s s′ : List ℕ) (rs rs′ : List Row) (w w′ : Tree) → Has s w rs → Has s′ w′ rs′
+    → length (textOf s rs) ≤ longest → length (textOf s′ rs′) ≤ longest
     → (meaningOf w ≡ meaningOf w′) ↔ (textOf s rs ≡ textOf s′ rs′)
 equal-rows s s′ rs rs′ w w′ h h′ few few′ =
     let e = tree-text w s rs h in

@@ -1,4 +1,4 @@
--- Document 01's starred byte lines hold, in one statement over their table: the checker computes each answer, and each lean form from the tree that the bytes spell, which is what the call writes.
+-- Document 01's starred byte lines hold, in one statement: the checker computes each answer, and from the tree that the bytes spell the lean form written.
 use Prim.Native.Nat.{ℕ}
 use mathlib.Core.Path.{_≡_, refl, ap, _∙_}
 use mathlib.Core.List.{List, [], _∷_, _++_}
@@ -31,12 +31,15 @@ one-byte c b ls l lens con e =
       e,
       λ table out room fits.
           let q = in-one-call t w s table out (omega arith) (omega (arith, ap length e)) in
-          (ap (λ (x : Counted × List ℕ × List ℕ). x .0) q ∙ ap (λ (y : List ℕ). Is (length y)) e, ap (λ (x : Counted × List ℕ × List ℕ). x .2) q ∙ ap (λ (y : List ℕ). y ++ drop (length y) out) e),
+          let number = ap (λ (x : Counted × List ℕ × List ℕ). x .0) q ∙ ap (λ (y : List ℕ). Is (length y)) e in
+          let bytes = ap (λ (x : Counted × List ℕ × List ℕ). x .2) q ∙ ap (λ (y : List ℕ). y ++ drop (length y) out) e in
+          (number, bytes),
     )
 
 -- THE STARRED LINES HOLD.
 pub starred : Each Right table
-unfolding numberOf bytesOf kindOf allowed largest fewest told leanItem total leaving stackOf levelsOf cleanOf fitsItems fitsList fitsPlain fitsLengths fresh known atFormat atList atPlain atLength atContent stepAt step allowsPhase allowsFrame allowsEnd allows status eat fedOf
+unfolding numberOf bytesOf kindOf allowed largest fewest told leanItem total leaving stackOf levelsOf cleanOf fitsItems fitsList fitsPlain fitsLengths
+    fresh known atFormat atList atPlain atLength atContent stepAt step allowsPhase allowsFrame allowsEnd allows status eat fedOf
 starred = (
   (refl, refl, tt),
   (
@@ -68,7 +71,13 @@ starred = (
                               refl,
                               refl,
                               one-byte A 0x41 (0x00 ∷ 0x00 ∷ 0x01 ∷ []) (0x41 ∷ 0x01 ∷ 0x41 ∷ [])
-                                  (record { some = omega arith; few = omega arith; bytes = (omega arith, (omega arith, (omega arith, tt))); says = refl; form = tt })
+                                  (record {
+                                    some = omega arith;
+                                    few = omega arith;
+                                    bytes = (omega arith, (omega arith, (omega arith, tt)));
+                                    says = refl;
+                                    form = tt;
+                                  })
                                   (record { width = 1; known = refl; whole = refl; bytes = (omega arith, tt) })
                                   refl,
                             ),

@@ -1,4 +1,4 @@
--- Along a prefix the reader stands where exactly the good texts of N bytes that begin so may follow, or it has fallen at the first prefix that none begins with.
+-- Along a prefix the reader stands where exactly the good texts of N bytes that begin so may follow, or has fallen at the first prefix that none begins with.
 use Prim.Native.Nat.{ℕ, _+_, _≤_, _<_}
 use mathlib.Core.Path.{_≡_, refl, sym, ap, subst, _∙_}
 use mathlib.Core.Bool.{Bool, true, false, cond}
@@ -42,7 +42,8 @@ pub data Along (n : ℕ) (q : List ℕ) (s : State) : Type 0 where
   nothing : n ≡ 0 → q ≡ [] → s ≡ state n 0 [] Format → Along n q s
   never : q ≡ [] → s ≡ refused n 5 → (Begins n [] → ⊥) → Along n q s
   stands : Stands n q s → Along n q s
-  falls : (q₁ : List ℕ) (b e : ℕ) → q ≡ q₁ ++ (b ∷ []) → length q₁ < n → Begins n q₁ → (Begins n q → ⊥) → NumberBehind n q₁ b e → 1 ≤ e → e ≤ 6 → s ≡ refused n e → Along n q s
+  falls : (q₁ : List ℕ) (b e : ℕ) → q ≡ q₁ ++ (b ∷ []) → length q₁ < n → Begins n q₁ → (Begins n q → ⊥)
+      → NumberBehind n q₁ b e → 1 ≤ e → e ≤ 6 → s ≡ refused n e → Along n q s
 
 -- ---- before any byte
 
@@ -147,7 +148,8 @@ module _ (n : ℕ) (q : List ℕ) (s : State) (b : ℕ) (st : Stands n q s) (mor
           where-to l (gone m x e) = absurd (subst (λ (y : State). LiveAt (y .phase) (y .stack)) e (l .at))
       go (ends h k e) =
           falls q b (numberAt (roleIn (s .phase) (length (s .stack))) b) refl (omega (arith, more-left s (st .live) more, st .size, st .read)) viable no-more
-          (record { says = λ t w g l p. ap (λ (ρ : Role). numberAt ρ b) (next-role n q s st t w g l p) }) h k (e ∙ ap (λ (x : ℕ). refused x (numberAt (roleIn (s .phase) (length (s .stack))) b)) (st .size))
+          (record { says = λ t w g l p. ap (λ (ρ : Role). numberAt ρ b) (next-role n q s st t w g l p) })
+          h k (e ∙ ap (λ (x : ℕ). refused x (numberAt (roleIn (s .phase) (length (s .stack))) b)) (st .size))
         where
           viable : Begins n q
           viable = let (t, w) = st .live .follows in let r = st .from t w in (t, r .0, r .1)

@@ -70,7 +70,8 @@ module _ (n : ℕ) (w through over : List ℕ) (all : w ≡ through ++ over) whe
       (at-byte q b over e (all ∙ ap (λ (u : List ℕ). u ++ over) x ∙ append-assoc q (b ∷ []) over) (ap length x ∙ omega (arith, length-append q (b ∷ []))) l y
       (λ v. z (subst (Begins n) (sym x) v)) m)
 
--- DEMAND 3. For every N, every list of bytes and every way to cut it into pieces, the reader's state after the pieces, and the bytes consumed in all, are right.
+-- DEMAND 3. For every N, every list of bytes and every way to cut it into pieces, the reader's state after the pieces, and the bytes consumed in all,
+-- are right.
 pub demand-3 : (n : ℕ) (ps : List (List ℕ)) → AtMost 0xFF (joined ps)
     → Verdict n (joined ps) (feeds (readerOf (fresh n)) ps .0) (status (stateOf (feeds (readerOf (fresh n)) ps .1)))
 demand-3 n ps b =
@@ -110,8 +111,10 @@ module _ (n : ℕ) (w : List ℕ) (k : ℕ) where
   pub complete-iff : length w ≤ n → (a : Answer) → Verdict n w k a → (a ≡ Complete) ↔ (Good w × (length w ≡ n))
   complete-iff h a (goes-on z l v) = ((λ x. absurd (let y : _≡_ {A = ℕ} 0 1 = cc x in omega arith)), λ x. absurd (omega (arith, x .1)))
   complete-iff h a (complete z l g) = ((λ _. (subst Good (take-all n w h) g, omega arith)), λ _. refl)
-  complete-iff h a (before-any z v) =
-      ((λ x. absurd (let y : _≡_ {A = ℕ} 0 1 = cc x in omega arith)), λ x. absurd (v (shorter-begins n [] w (good-begins (omega (arith, x .1)) h (subst Good (sym (take-all n w h)) (x .0))))))
+  complete-iff h a (before-any z v) = (
+    (λ x. absurd (let y : _≡_ {A = ℕ} 0 1 = cc x in omega arith)),
+    λ x. absurd (v (shorter-begins n [] w (good-begins (omega (arith, x .1)) h (subst Good (sym (take-all n w h)) (x .0))))),
+  )
   complete-iff h a (at-byte q b r e z l m v x y) = (
     (λ u. absurd (let t : _≡_ {A = ℕ} 0 1 = cc u in omega arith)),
     λ u. absurd (none-such q b r z x (good-begins (omega (arith, u .1)) h (subst Good (sym (take-all n w h)) (u .0)))),

@@ -12,6 +12,7 @@ use Rattle.reader.specs.Feed.{allows, status, fed, after, eat, start, fedOf}
 use Rattle.reader.proofs.Rest.{Live}
 use Rattle.reader.specs.declared.Phase.the-variants.{Format}
 use Rattle.reader.specs.declared.Reader.{Reader}
+use Rattle.reader.specs.declared.Fed.{Fed}
 use Rattle.reader.specs.declared.Answer.{Answer}
 use Rattle.reader.specs.declared.Answer.the-variants.{More, Complete, Refusal}
 use Rattle.reader.proofs.Allowed.{state-reader, live-allows, refused-allows}
@@ -28,7 +29,8 @@ refused-holds n e s h k q = rw q (record { is = state-reader (refused n e) (omeg
 
 pub along-holds : (n : ℕ) (q : List ℕ) (s : State) → Along n q s → Holds s
 along-holds n q s (nothing z e f) =
-    let l : Live (state n 0 [] Format) = record { bounded = omega arith; within = omega arith; shallow = omega arith; at = tt; follows = ([], (omega arith, refl)) } in
+    let l : Live (state n 0 [] Format)
+    = record { bounded = omega arith; within = omega arith; shallow = omega arith; at = tt; follows = ([], (omega arith, refl)) } in
     rw f (record { is = state-reader (state n 0 [] Format) (omega arith); allowed = live-allows (state n 0 [] Format) l })
 along-holds n q s (never e f g) = refused-holds n 5 s (omega arith) (omega arith) f
 along-holds n q s (stands st) = record { is = state-reader s (st .live .shallow); allowed = live-allows s (st .live) }
@@ -76,9 +78,16 @@ eat-goes (b ∷ p) n q s k a m (byte, bytes) = go (status (step s b)) refl (eat-
     stop : (status (step s b) ≡ More → ⊥) → Went n q (b ∷ p)
     stop h = record { through = b ∷ []; over = p; all = refl; to = step s b; along = next; last = λ e. absurd (h e) }
 
-    go : (x : Answer) → status (step s b) ≡ x
-        → (status (step s b) ≡ More → AtMost 0xFF p → (w : Went n (q ++ (b ∷ [])) p) × (eat (step s b) (k + 1) p ≡ fed (status (w .to)) (k + 1 + length (w .through)) (readerOf (w .to))))
-        → (w : Went n q (b ∷ p)) × (after (status (step s b)) (step s b) (k + 1) (eat (step s b) (k + 1) p) ≡ fed (status (w .to)) (k + length (w .through)) (readerOf (w .to)))
+    Rec : Type 0
+    Rec = (w : Went n (q ++ (b ∷ [])) p) × (eat (step s b) (k + 1) p ≡ fed (status (w .to)) (k + 1 + length (w .through)) (readerOf (w .to)))
+
+    eaten : Fed
+    eaten = after (status (step s b)) (step s b) (k + 1) (eat (step s b) (k + 1) p)
+
+    Goal : Type 0
+    Goal = (w : Went n q (b ∷ p)) × (eaten ≡ fed (status (w .to)) (k + length (w .through)) (readerOf (w .to)))
+
+    go : (x : Answer) → status (step s b) ≡ x → (status (step s b) ≡ More → AtMost 0xFF p → Rec) → Goal
     go More e rec =
         let (w, f) = rec e bytes in (
           record {
@@ -192,7 +201,8 @@ before-end n q x y w h =
     }
 
 -- feeds behind a first one
-feeds-behind : (r r′ : Reader) (p : List ℕ) (ps : List (List ℕ)) (x : Answer) (k m : ℕ) (r″ : Reader) → fedOf r p ≡ fed x k r′ → feeds r′ ps ≡ (m, r″) → feeds r (p ∷ ps) ≡ (k + m, r″)
+feeds-behind : (r r′ : Reader) (p : List ℕ) (ps : List (List ℕ)) (x : Answer) (k m : ℕ) (r″ : Reader)
+    → fedOf r p ≡ fed x k r′ → feeds r′ ps ≡ (m, r″) → feeds r (p ∷ ps) ≡ (k + m, r″)
 feeds-behind r r′ p ps x k m r″ e f = rw (e, f)
 
 pub feeds-go : (ps : List (List ℕ)) (n : ℕ) (q : List ℕ) (s : State) → Along n q s → AtMost 0xFF (joined ps)
@@ -217,7 +227,8 @@ feeds-go (p ∷ ps) n q s a b = go (going s) (λ q′ s′ a′. feeds-go ps n q
     next w f (off d h) rec =
         let e : 0 + length (w .through) + 0 ≡ length (w .through) = omega arith in (
           before-end n q p (joined ps) w h,
-          feeds-behind (readerOf s) (readerOf (w .to)) p ps _ _ _ _ f (ended-all ps (w .to) (along-holds n (q ++ w .through) (w .to) (w .along)) d) ∙ ap (λ (x : ℕ). (x, readerOf (w .to))) e,
+          feeds-behind (readerOf s) (readerOf (w .to)) p ps _ _ _ _ f (ended-all ps (w .to) (along-holds n (q ++ w .through) (w .to) (w .along)) d)
+              ∙ ap (λ (x : ℕ). (x, readerOf (w .to))) e,
         )
 
     go : Going s → Rec → Goal

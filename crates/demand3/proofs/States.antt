@@ -1,4 +1,4 @@
--- The list behind 14: no state reached from a fresh reader breaks it, and it is exact, since a state that it allows and that is not refused can still be completed.
+-- The list behind 14: no state reached from a fresh reader breaks it, and it is exact, since one that it allows and that is not refused can still be completed.
 use Prim.Native.Nat.{ℕ, zero, suc, _+_, _-_, _≤_, _<_}
 use mathlib.Core.Path.{_≡_, refl, ap, subst}
 use mathlib.Core.Bool.{true}

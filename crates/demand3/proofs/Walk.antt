@@ -73,9 +73,11 @@ list-naive : (n k : ℕ) (st : List ℕ) (v : ℕ) → Naive (Format, leaving (v
 unfolding atList
 list-naive n k st v =
     naive-pick a (eqb v 0) _ _
-    (λ z. naive-pick a (fitsItems (n - k) (total st)) _ _ (λ _. there (ap (λ (x : List ℕ). (Format, x)) (sym (leaving-none v st (eqb-true v 0 z))))) (λ _. gone n 5 refl))
+    (λ z. naive-pick a (fitsItems (n - k) (total st)) _ _
+    (λ _. there (ap (λ (x : List ℕ). (Format, x)) (sym (leaving-none v st (eqb-true v 0 z))))) (λ _. gone n 5 refl))
     (λ z. naive-pick a (eqb (length st) 16) _ _ (λ _. gone n 4 refl)
-    (λ _. naive-pick a (fitsItems (n - k) (total st + v)) _ _ (λ _. there (ap (λ (x : List ℕ). (Format, x)) (sym (leaving-some v st (eqb-false v 0 z))))) (λ _. gone n 5 refl)))
+    (λ _. naive-pick a (fitsItems (n - k) (total st + v)) _ _
+    (λ _. there (ap (λ (x : List ℕ). (Format, x)) (sym (leaving-some v st (eqb-false v 0 z))))) (λ _. gone n 5 refl)))
   where
     a : Phase × List ℕ
     a = (Format, leaving (v ∷ st))
@@ -108,7 +110,8 @@ step-naive Format n k st b =
     a = (Length (b / 4) (b % 4) 0, began st)
 step-naive (Length c j v) n k st b =
     both-naive (ltb 0 (j - 1)) (Length c (j - 1) (v * 256 + b), st) (body c st (v * 256 + b)) _ _
-    (naive-pick (Length c (j - 1) (v * 256 + b), st) (fitsLengths c (length st) (n - k) (total st) (j - 1) (v * 256 + b)) _ _ (λ _. there refl) (λ _. gone n 5 refl))
+    (naive-pick (Length c (j - 1) (v * 256 + b), st) (fitsLengths c (length st) (n - k) (total st) (j - 1) (v * 256 + b)) _ _
+    (λ _. there refl) (λ _. gone n 5 refl))
     (both-naive (eqb c L) _ _ _ _ (list-naive n k st (v * 256 + b)) (plain-naive n k st c (v * 256 + b)))
 step-naive (Content c l) n k st b =
     naive-pick (content c st (l - 1)) (leb b (largest c)) _ _ (λ _. content-naive n k st c (l - 1)) (λ _. gone n 6 refl)
@@ -121,7 +124,8 @@ step-there s b = step-naive (s .phase) (s .size) (s .read + 1) (s .stack) b
 -- ---- through a good text
 
 -- the content of an item
-taken-content : (c b : ℕ) (x w st : List ℕ) → taken (Content c (suc (length x)), st) (b ∷ x ++ w) ≡ contentByte ∷ map (λ (y : ℕ). contentByte) x ++ taken (Format, leaving st) w
+taken-content : (c b : ℕ) (x w st : List ℕ)
+    → taken (Content c (suc (length x)), st) (b ∷ x ++ w) ≡ contentByte ∷ map (λ (y : ℕ). contentByte) x ++ taken (Format, leaving st) w
 taken-content c b [] w st = refl
 taken-content c b (b′ ∷ x) w st =
     let e : suc (suc (length x)) - 1 ≡ suc (length x) = omega arith in
@@ -148,7 +152,8 @@ taken-lengths c b v (b′ ∷ ls) w st =
     (taken-lengths c b′ (v * 256 + b) ls w st
     ∙ ap (λ (x : ℕ). lengthRoles c (length st) (v * 256 + b) (b′ ∷ ls) ++ taken (body c st x) w) (sym (number-on v b (b′ ∷ ls)))))
 
-lengths-taken : (c n : ℕ) (ls w st : List ℕ) → Lengths good ls n → taken (Length c (length ls) 0, st) (ls ++ w) ≡ lengthRoles c (length st) 0 ls ++ taken (body c st n) w
+lengths-taken : (c n : ℕ) (ls w st : List ℕ) → Lengths good ls n
+    → taken (Length c (length ls) 0, st) (ls ++ w) ≡ lengthRoles c (length st) 0 ls ++ taken (body c st n) w
 lengths-taken c n [] w st lens = absurd (omega (arith, lens .some))
 lengths-taken c n (b ∷ ls) w st lens =
     let e : grown 0 (b ∷ ls) ≡ n = omega (arith, lens .says) in
@@ -173,14 +178,16 @@ mutual
       ap (λ (y : List ℕ). taken (Format, suc m ∷ st) (y ++ w)) e
       ∙ ap (taken (Format, suc m ∷ st)) (append-assoc (header c ls) x w)
       ∙ header-taken c (length x) m ls (x ++ w) st lens
-      ∙ ap (λ (rs : List Role). formatByte ∷ lengthRoles c (suc (length st)) 0 ls ++ rs) (plain-body c x w (m ∷ st) (plain-not-list c (con .width) (con .known)))
+      ∙ ap (λ (rs : List Role). formatByte ∷ lengthRoles c (suc (length st)) 0 ls ++ rs)
+      (plain-body c x w (m ∷ st) (plain-not-list c (con .width) (con .known)))
       ∙ sym (append-assoc (formatByte ∷ lengthRoles c (suc (length st)) 0 ls) (map (λ (y : ℕ). contentByte) x) (taken (Format, leaving (m ∷ st)) w))
   item-taken (list is) m st u w (ls, inner, e, lens, all, deep) =
       ap (λ (y : List ℕ). taken (Format, suc m ∷ st) (y ++ w)) e
       ∙ ap (taken (Format, suc m ∷ st)) (append-assoc (header L ls) inner w)
       ∙ header-taken L (count is) m ls (inner ++ w) st lens
       ∙ ap (λ (rs : List Role). formatByte ∷ lengthRoles L (suc (length st)) 0 ls ++ rs) (items-taken is (m ∷ st) inner w all)
-      ∙ sym (append-assoc (formatByte ∷ lengthRoles L (suc (length st)) 0 ls) (itemsRoles is (suc (suc (length st))) inner all) (taken (Format, leaving (m ∷ st)) w))
+      ∙ sym (append-assoc (formatByte ∷ lengthRoles L (suc (length st)) 0 ls) (itemsRoles is (suc (suc (length st))) inner all)
+      (taken (Format, leaving (m ∷ st)) w))
 
   items-taken : (is : Items) (st u w : List ℕ) (all : SpellsAll good (suc (length st)) is u)
       → taken (Format, leaving (count is ∷ st)) (u ++ w) ≡ itemsRoles is (suc (length st)) u all ++ taken (Format, leaving st) w

@@ -29,11 +29,14 @@ either false x y h k = k
 
 number-range : (ρ : Role) (b : ℕ) → InRange (numberAt ρ b)
 unfolding numberAt
-number-range formatByte b = either (known (b / 4)) _ 1 (either (eqb (b % 4) 0) 2 5 (omega arith, omega arith) (omega arith, omega arith)) (omega arith, omega arith)
+number-range formatByte b =
+    either (known (b / 4)) _ 1 (either (eqb (b % 4) 0) 2 5 (omega arith, omega arith) (omega arith, omega arith)) (omega arith, omega arith)
 number-range (lengthByte c d j v) b =
     either (ltb 0 j) 5 _ (omega arith, omega arith)
     (either (allowed c _) _ 3
-    (either (eqb c L) _ 5 (either (eqb (v * 256 + b) 0) 5 _ (omega arith, omega arith) (either (eqb d 16) 4 5 (omega arith, omega arith) (omega arith, omega arith))) (omega arith, omega arith))
+    (either (eqb c L) _ 5
+    (either (eqb (v * 256 + b) 0) 5 _ (omega arith, omega arith) (either (eqb d 16) 4 5 (omega arith, omega arith) (omega arith, omega arith)))
+    (omega arith, omega arith))
     (omega arith, omega arith))
 number-range contentByte b = (omega arith, omega arith)
 
@@ -51,7 +54,8 @@ judged t w k a same v =
     go a v (before-any z b) = not-good 5 (omega arith) (omega arith) (λ g. b (t, g, refl))
     go a v (at-byte q b r e z l h p x y) =
         let i = behind-range (length t) q b e h p y in
-        not-good e (i .0) (i .1) (λ g. refused-iff (length t) t k (omega arith) (Refusal e) v .0 (e, refl) ([], subst Good (sym (append-nil t)) g, ap length (append-nil t)))
+        not-good e (i .0) (i .1)
+        (λ g. refused-iff (length t) t k (omega arith) (Refusal e) v .0 (e, refl) ([], subst Good (sym (append-nil t)) g, ap length (append-nil t)))
 
 -- a fresh reader is complete for N=0 alone, so that the one feed is answered by the status after it
 answered : (t : List ℕ) → AtMost 0xFF t → fedOf (readerOf (fresh (length t))) t .answer ≡ status (stateOf (fedOf (readerOf (fresh (length t))) t .reader))

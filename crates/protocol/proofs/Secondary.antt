@@ -1,4 +1,4 @@
--- A secondary is delivered only to the own primary with its system bytes and stream, and closes it; another is left as it was, since no two have the same system bytes.
+-- A secondary is delivered only to the own primary with its system bytes and stream, and closes it; another stays, since no two have the same system bytes.
 use Prim.Native.Nat.{ℕ, _+_, _<_}
 use mathlib.Core.Bool.{Bool, true, false, false≢true, cond}
 use mathlib.Core.List.{List}

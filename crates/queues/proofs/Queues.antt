@@ -1,4 +1,4 @@
--- Each call on an outbox that holds a queue leaves the outbox that holds the queue afterwards: the used bytes are the frames that wait, so the first frame is the oldest.
+-- Each call on an outbox that holds a queue leaves one that holds the queue afterwards: the used bytes are the frames that wait, the oldest first.
 use Prim.Native.Nat.{ℕ, _+_, _-_}
 use mathlib.Core.Path.{_≡_, refl, sym, ap, ap₂, _∙_}
 use mathlib.Core.Bool.{Bool, true, false, cond}
@@ -12,7 +12,8 @@ use Rattle.wire.specs.Number.{numberOf}
 use Rattle.frame.specs.Frame.{lengthIn}
 use Rattle.outbox.specs.Outbox.{frameNumber, front, wholeFrom, holds, appendOf, nextNumber, nextOf, sizeOf, moved, dropOf}
 use Rattle.outbox.proofs.Fronts.{frame-fits, front-is}
-use Rattle.queues.specs.Queue.{Box, box, joined, bufferOf, usedOf, Frames, joins, Act, toControl, toData, dropNext, Boxes, boxes, acted, actedAll, Lent, lent, lentOf, called, calledAll, Kept, Appended, Handed, Gone}
+use Rattle.queues.specs.Queue.{Box, box, joined, bufferOf, usedOf, Frames, joins, Act, toControl, toData, dropNext, Boxes, boxes, acted, actedAll}
+use Rattle.queues.specs.Queue.{Lent, lent, lentOf, called, calledAll, Kept, Appended, Handed, Gone}
 
 -- ---- the used bytes are the frames that wait
 
@@ -71,7 +72,8 @@ module _ (b : Box) (a : Frames (b .waiting)) where
           record {
             buffer =
                 rw (box-holds, e, room-is, h, used-bytes, more)
-                (ap (λ (x : List ℕ). joined (b .waiting) ++ (f ++ x)) (drop-append-add (joined (b .waiting)) (b .behind) (length f)) ∙ sym (append-assoc (joined (b .waiting)) f (drop (length f) (b .behind))));
+                (ap (λ (x : List ℕ). joined (b .waiting) ++ (f ++ x)) (drop-append-add (joined (b .waiting)) (b .behind) (length f))
+                ∙ sym (append-assoc (joined (b .waiting)) f (drop (length f) (b .behind))));
             used = rw (box-holds, e, room-is, h, more) (sym (length-append (joined (b .waiting)) f));
             frames = rw (e, h) (frames-last (b .waiting) f a (eqb-true (frameNumber f) 0 e));
           }
@@ -103,7 +105,8 @@ module _ (f : List ℕ) (q : List (List ℕ)) (r : List ℕ) (z : frameNumber f 
   moved-is : moved (bufferOf some) (sizeOf (bufferOf some) (usedOf some)) (usedOf some) ≡ bufferOf (box q (replicate (length f) 0 ++ r))
   unfolding moved joined
   moved-is =
-      rw (size-is, used-bytes some (z, a), behind-bytes some (z, a)) (ap (λ (x : List ℕ). x ++ (replicate (length f) 0 ++ r)) (drop-at f (joined q) (length f) refl))
+      rw (size-is, used-bytes some (z, a), behind-bytes some (z, a))
+      (ap (λ (x : List ℕ). x ++ (replicate (length f) 0 ++ r)) (drop-at f (joined q) (length f) refl))
 
   left-is : usedOf some - sizeOf (bufferOf some) (usedOf some) ≡ length (joined q)
   unfolding joined
@@ -149,16 +152,21 @@ gone (f ∷ q) dq cr dr (z, a) b =
 
 acted-is : (b : Boxes) → Kept b → (x : Act) → (called (lentOf b) x ≡ lentOf (acted b x)) × Kept (acted b x)
 acted-is b k (toControl f) =
-    let r = appended (b .control) (k .control) f in
-    (ap₂ (λ (s : List ℕ) (n : ℕ). lent s n (bufferOf (b .stock)) (usedOf (b .stock))) (r .buffer) (r .used), record { control = r .frames; stock = k .stock })
+    let r = appended (b .control) (k .control) f in (
+      ap₂ (λ (s : List ℕ) (n : ℕ). lent s n (bufferOf (b .stock)) (usedOf (b .stock))) (r .buffer) (r .used),
+      record { control = r .frames; stock = k .stock },
+    )
 acted-is b k (toData f) =
-    let r = appended (b .stock) (k .stock) f in
-    (ap₂ (λ (s : List ℕ) (n : ℕ). lent (bufferOf (b .control)) (usedOf (b .control)) s n) (r .buffer) (r .used), record { control = k .control; stock = r .frames })
+    let r = appended (b .stock) (k .stock) f in (
+      ap₂ (λ (s : List ℕ) (n : ℕ). lent (bufferOf (b .control)) (usedOf (b .control)) s n) (r .buffer) (r .used),
+      record { control = k .control; stock = r .frames },
+    )
 acted-is b k dropNext =
     let r = gone (b .control .waiting) (b .stock .waiting) (b .control .behind) (b .stock .behind) (k .control) (k .stock) in
     (r .calls, r .kept)
 
--- OVER ANY SEQUENCE OF APPENDS AND DROPS EACH OUTBOX IS A PLAIN QUEUE OF FRAMES: its buffer is the frames that wait, oldest first, and behind the used bytes those that were there, or 00 where freed.
+-- OVER ANY SEQUENCE OF APPENDS AND DROPS EACH OUTBOX IS A PLAIN QUEUE OF FRAMES: its buffer is the frames that wait, oldest first, and behind the used
+-- bytes those that were there, or 00 where freed.
 pub queues : (as′ : List Act) (b : Boxes) → Kept b → (calledAll (lentOf b) as′ ≡ lentOf (actedAll b as′)) × Kept (actedAll b as′)
 queues [] b k = (refl, k)
 queues (x ∷ as′) b k =

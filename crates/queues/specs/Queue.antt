@@ -117,9 +117,17 @@ dataUsed (D.Refused k) used = used
 
 abbrev pub called : Lent → Act → Lent
 called l (toControl f) =
-    lent (appendAfter (appendOf (l .control) (l .cused) f) (l .control) (l .cused) f) (usedAfter (appendOf (l .control) (l .cused) f) (l .cused)) (l .stock) (l .dused)
+    lent
+    (appendAfter (appendOf (l .control) (l .cused) f) (l .control) (l .cused) f)
+    (usedAfter (appendOf (l .control) (l .cused) f) (l .cused))
+    (l .stock)
+    (l .dused)
 called l (toData f) =
-    lent (l .control) (l .cused) (appendAfter (appendOf (l .stock) (l .dused) f) (l .stock) (l .dused) f) (usedAfter (appendOf (l .stock) (l .dused) f) (l .dused))
+    lent
+    (l .control)
+    (l .cused)
+    (appendAfter (appendOf (l .stock) (l .dused) f) (l .stock) (l .dused) f)
+    (usedAfter (appendOf (l .stock) (l .dused) f) (l .dused))
 called l dropNext =
     lent
     (controlAfter (dropOf (l .control) (l .cused) (l .stock) (l .dused)) (l .control) (l .cused))

@@ -1,4 +1,4 @@
--- The theorems of a stream: the frames handed out are its frames, its end has the number of where it ends, no reached state breaks the list, and a host's loop feeds all.
+-- The theorems of a stream: the frames handed out are its frames, its end has its number, no reached state breaks the list, and a host's loop feeds all.
 use Prim.Native.Nat.{ℕ, suc, _+_, _-_, _≤_, min}
 use mathlib.Core.Path.{_≡_, refl, sym, ap, subst, _∙_}
 use mathlib.Core.Bool.{Bool, true, false, cond}
@@ -17,7 +17,8 @@ use Rattle.streams.specs.Stream.{Frame, AllTaken, all, Unfinished, Split
 use Rattle.streams.specs.Handed.{Run, wholeOf, feeds, fresh, AllBytes, HandedOut, Ends}
 use Rattle.streams.proofs.Once.{split-once}
 use Rattle.streams.proofs.Streams as streams
-use Rattle.streams.proofs.Rests.{Came, came, rest-none, none-rest, rest-inside, inside-rest, rest-wrong, wrong-rest, none-unfinished, inside-unfinished, wrong-unfinished, rest-unfinished}
+use Rattle.streams.proofs.Rests.{Came, came, rest-none, none-rest, rest-inside, inside-rest, rest-wrong, wrong-rest}
+use Rattle.streams.proofs.Rests.{none-unfinished, inside-unfinished, wrong-unfinished, rest-unfinished}
 
 module _ (ps : List (List ℕ)) (b : AllBytes ps) where
   abbrev x : Run
@@ -93,7 +94,8 @@ eat-more (b ∷ p) bs k e = go (after (bs ++ (b ∷ []))) e (eat-more p (bs ++ (
     next : Fed
     next = eat t (k + 1) p
 
-    go : (s : State) → reached s t (k + 1) next .event ≡ More → (next .event ≡ More → next .consumed ≡ k + 1 + length p) → reached s t (k + 1) next .consumed ≡ k + suc (length p)
+    go : (s : State) → reached s t (k + 1) next .event ≡ More → (next .event ≡ More → next .consumed ≡ k + 1 + length p)
+        → reached s t (k + 1) next .consumed ≡ k + suc (length p)
     go (head x) e rec = rec e ∙ omega arith
     go (text n) e rec = absurd (let z : _≡_ {A = ℕ} 0 1 = cc in omega arith)
     go (refused n) e rec = absurd (let z : _≡_ {A = ℕ} 0 1 = cc in omega arith)

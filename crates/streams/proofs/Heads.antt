@@ -124,6 +124,7 @@ eat-ate (b ∷ p) bs k begun = go (classified bs b begun) (λ g. eat-ate p (bs +
         let n : k + 1 + length u ≡ k + length (b ∷ u) = omega arith in
         off (b ∷ u) v (ap (λ (y : List ℕ). b ∷ y) q) (rw e (f ∙ ap₂ (λ (y : List ℕ) (j : ℕ). fed (eventAt (after y) y) j (after y)) z n)) (subst Ended z g)
 
-    go : ((after t ≡ head t) × Begun t) ⊎ Ended t → (Begun t → Ate t (k + 1) p (eat t (k + 1) p)) → Ate bs k (b ∷ p) (reached (after t) t (k + 1) (eat t (k + 1) p))
+    go : ((after t ≡ head t) × Begun t) ⊎ Ended t → (Begun t → Ate t (k + 1) p (eat t (k + 1) p))
+        → Ate bs k (b ∷ p) (reached (after t) t (k + 1) (eat t (k + 1) p))
     go (inl (e, g)) rec = behind (rec g) e
     go (inr d) rec = off (b ∷ []) p refl (reached-end t (k + 1) (eat t (k + 1) p) d) d

@@ -21,27 +21,32 @@ pub frame-says : (h : Header) (x v : List ℕ) → length x ≤ longest → leng
 unfolding frameOf
 frame-says h x v few =
     let n = length-bytes 4 (10 + length x) in
-    ap numberOf (ap (take 4) (append-assoc (bytesOf 4 (10 + length x)) (headerBytes h ++ x) v) ∙ take-at (bytesOf 4 (10 + length x)) ((headerBytes h ++ x) ++ v) 4 n)
+    let four = bytesOf 4 (10 + length x) in
+    ap numberOf (ap (take 4) (append-assoc four (headerBytes h ++ x) v) ∙ take-at four ((headerBytes h ++ x) ++ v) 4 n)
     ∙ number-bytes 4 (10 + length x) ∙ mod-eq-of-lt (omega arith)
 
 frame-parts : (h h′ : Header) (x x′ : List ℕ) → InRange h → InRange h′ → length x ≡ length x′ → frameOf h x ≡ frameOf h′ x′ → (h ≡ h′) × (x ≡ x′)
 unfolding frameOf
 frame-parts h h′ x x′ r r′ n e =
-    let p = parts (bytesOf 4 (10 + length x)) (bytesOf 4 (10 + length x′)) (headerBytes h ++ x) (headerBytes h′ ++ x′) (length-bytes 4 (10 + length x) ∙ sym (length-bytes 4 (10 + length x′))) e in
+    let same = length-bytes 4 (10 + length x) ∙ sym (length-bytes 4 (10 + length x′)) in
+    let p = parts (bytesOf 4 (10 + length x)) (bytesOf 4 (10 + length x′)) (headerBytes h ++ x) (headerBytes h′ ++ x′) same e in
     let q = parts (headerBytes h) (headerBytes h′) x x′ (bytes-length h ∙ sym (bytes-length h′)) (p .1) in
     (sym (header-back h r) ∙ ap headerOf (q .0) ∙ header-back h′ r′, q .1)
 
 -- one frame at the front of the same bytes, and what follows it
-front-once : (f f′ : Frame) (v v′ : List ℕ) → Taken f → Taken f′ → frameOf (f .header) (f .text) ++ v ≡ frameOf (f′ .header) (f′ .text) ++ v′ → (f ≡ f′) × (v ≡ v′)
+front-once : (f f′ : Frame) (v v′ : List ℕ) → Taken f → Taken f′ → frameOf (f .header) (f .text) ++ v ≡ frameOf (f′ .header) (f′ .text) ++ v′
+    → (f ≡ f′) × (v ≡ v′)
 front-once f f′ v v′ a a′ e =
     let n : length (f .text) ≡ length (f′ .text)
     = omega (arith, frame-says (f .header) (f .text) v (a .few), frame-says (f′ .header) (f′ .text) v′ (a′ .few), ap lengthIn e) in
-    let m : length (frameOf (f .header) (f .text)) ≡ length (frameOf (f′ .header) (f′ .text)) = omega (arith, frame-length (f .header) (f .text), frame-length (f′ .header) (f′ .text)) in
+    let m : length (frameOf (f .header) (f .text)) ≡ length (frameOf (f′ .header) (f′ .text))
+    = omega (arith, frame-length (f .header) (f .text), frame-length (f′ .header) (f′ .text)) in
     let p = parts (frameOf (f .header) (f .text)) (frameOf (f′ .header) (f′ .text)) v v′ m e in
     let q = frame-parts (f .header) (f′ .header) (f .text) (f′ .text) (a .range) (a′ .range) n (p .0) in
     (ap₂ frame (q .0) (q .1), p .1)
 
-frames-once : (fs fs′ : List Frame) (v v′ : List ℕ) → AllTaken fs → AllTaken fs′ → Unfinished v → Unfinished v′ → all fs ++ v ≡ all fs′ ++ v′ → (fs ≡ fs′) × (v ≡ v′)
+frames-once : (fs fs′ : List Frame) (v v′ : List ℕ) → AllTaken fs → AllTaken fs′ → Unfinished v → Unfinished v′
+    → all fs ++ v ≡ all fs′ ++ v′ → (fs ≡ fs′) × (v ≡ v′)
 unfolding all
 frames-once [] [] v v′ a a′ u u′ e = (refl, e)
 frames-once [] (f ∷ fs′) v v′ a (t, a′) u u′ e = absurd (u f (all fs′ ++ v′) t (e ∙ append-assoc (frameOf (f .header) (f .text)) (all fs′) v′))

@@ -1,4 +1,4 @@
--- What stands behind the whole frames: nothing, some bytes of a frame, or bytes that a number refuses. No whole frame stands there, and the three exclude each other.
+-- What stands behind the whole frames, and is never one: nothing, some bytes of a frame, or bytes that a number refuses; the three exclude each other.
 use Prim.Native.Nat.{ℕ, zero, suc, _+_, _-_, _≤_, _<_}
 use mathlib.Core.Path.{_≡_, refl, sym, ap, ap₂, subst, _∙_}
 use mathlib.Core.Bool.{Bool, true, false}

@@ -1,4 +1,4 @@
--- However a stream is cut, what was handed out of the consumed bytes are their frames, in order, each with its own text: each feed keeps what is known of the state that it starts from.
+-- However a stream is cut, each feed keeps what is known of its state: what was handed out are the consumed bytes' frames, in order, each with its text.
 use Prim.Native.Nat.{ℕ, zero, suc, _+_, _-_, _≤_, _<_, _^_, min}
 use mathlib.Core.Path.{_≡_, refl, sym, ap, ap₂, subst, _∙_}
 use mathlib.Core.Bool.{Bool, true, false, cond}
@@ -82,7 +82,8 @@ head-allowed bs begun = go (ltb (length bs) 4) refl
     go true e = rw (lt-ltb (length bs) 14 (begun .few), behind, zeros, e)
     go false e =
         let h : 4 ≤ length bs = ltb-false (length bs) 4 e in
-        rw (lt-ltb (length bs) 14 (begun .few), behind, zeros, e, length-front bs (replicate (14 - length bs) 0) h, eq-eqb (lengthNumber (lengthIn bs)) 0 (begun .length-ok h))
+        let same = length-front bs (replicate (14 - length bs) 0) h in
+        rw (lt-ltb (length bs) 14 (begun .few), behind, zeros, e, same, eq-eqb (lengthNumber (lengthIn bs)) 0 (begun .length-ok h))
 
 pub right-allowed : (c : List ℕ) (g : Handed) (s : State) → Right c g s → allows (readerOf s) ≡ true
 unfolding allows readerOf
@@ -105,7 +106,9 @@ Next c g p f = (s : State) × (f .reader ≡ readerOf s) × Right (c ++ take (f 
 pub all-append : (fs gs : List Frame) → all (fs ++ gs) ≡ all fs ++ all gs
 unfolding all
 all-append [] gs = refl
-all-append (f ∷ fs) gs = ap (λ (x : List ℕ). frameOf (f .header) (f .text) ++ x) (all-append fs gs) ∙ sym (append-assoc (frameOf (f .header) (f .text)) (all fs) (all gs))
+all-append (f ∷ fs) gs =
+    ap (λ (x : List ℕ). frameOf (f .header) (f .text) ++ x) (all-append fs gs)
+    ∙ sym (append-assoc (frameOf (f .header) (f .text)) (all fs) (all gs))
 
 pub taken-append : (fs gs : List Frame) → AllTaken fs → AllTaken gs → AllTaken (fs ++ gs)
 taken-append [] gs a b = b
@@ -155,10 +158,11 @@ text-taken {c} {g} r =
     let same : length x + 0 ≡ length x = omega arith in
     let f = frame (r .header) x in
     let is-done : closed (g .done) (g .current) ≡ g .done ++ (f ∷ []) = ap (closed (g .done)) (r .open-is) in
+    let kind-is = ap (λ (j : ℕ). kindNumber (r .header .stype) (10 + j)) (sym same) ∙ r .kind in
     let whole-is : all (g .done ++ (f ∷ [])) ≡ all (g .done) ++ (bytesOf 4 (10 + length x) ++ (headerBytes (r .header) ++ x))
     = all-append (g .done) (f ∷ []) ∙ ap (λ (y : List ℕ). all (g .done) ++ y) (append-nil (bytesOf 4 (10 + length x) ++ (headerBytes (r .header) ++ x))) in (
       subst AllTaken (sym is-done)
-          (taken-append (g .done) (f ∷ []) (r .taken) (record { range = r .range; few = omega (arith, r .few); kind = ap (λ (j : ℕ). kindNumber (r .header .stype) (10 + j)) (sym same) ∙ r .kind }, tt)),
+          (taken-append (g .done) (f ∷ []) (r .taken) (record { range = r .range; few = omega (arith, r .few); kind = kind-is }, tt)),
       r .is ∙ ap (λ (j : ℕ). all (g .done) ++ (bytesOf 4 (10 + j) ++ (headerBytes (r .header) ++ x))) same ∙ sym whole-is ∙ sym (ap all is-done),
     )
 
@@ -170,7 +174,13 @@ module _ (c : List ℕ) (g : Handed) (p : List ℕ) (b : AtMost 0xFF p) where
       rw e (
         head (bs ++ p),
         refl,
-        record { none-open = r .none-open; taken = r .taken; is = behind c (all (g .done)) bs p p (0 + length p) (r .is) n; begun = begun; bytes = at-most-append 0xFF bs p (r .bytes) b },
+        record {
+          none-open = r .none-open;
+          taken = r .taken;
+          is = behind c (all (g .done)) bs p p (0 + length p) (r .is) n;
+          begun = begun;
+          bytes = at-most-append 0xFF bs p (r .bytes) b;
+        },
       )
   head-next bs r f (off u v q e (whole n z k to)) =
       let t = bs ++ u in
@@ -231,22 +241,41 @@ module _ (c : List ℕ) (g : Handed) (p : List ℕ) (b : AtMost 0xFF p) where
       let (t, e) = text-taken (subst (InText c g) z r) in (
         head [],
         refl,
-        record { none-open = refl; taken = t; is = append-nil c ∙ e ∙ sym (append-nil (all (closed (g .done) (g .current)))); begun = record { few = omega arith; length-ok = λ h. absurd (omega arith) }; bytes = tt },
+        record {
+          none-open = refl;
+          taken = t;
+          is = append-nil c ∙ e ∙ sym (append-nil (all (closed (g .done) (g .current))));
+          begun = record { few = omega arith; length-ok = λ h. absurd (omega arith) };
+          bytes = tt;
+        },
       )
 
   stay-text : (n : ℕ) → InText c g n → Next c g p (fed E.More 0 (text n))
   stay-text n r = (
     text n,
     refl,
-    record { header = r .header; so-far = r .so-far; open-is = r .open-is; taken = r .taken; is = append-nil c ∙ r .is; range = r .range; few = r .few; kind = r .kind },
+    record {
+      header = r .header;
+      so-far = r .so-far;
+      open-is = r .open-is;
+      taken = r .taken;
+      is = append-nil c ∙ r .is;
+      range = r .range;
+      few = r .few;
+      kind = r .kind;
+    },
   )
 
   text-next : (n : ℕ) → InText c g n → Next c g p (textFed n (length p))
   unfolding textFed
   text-next n r = go (eqb n 0) refl (eqb (length p) 0) refl
     where
-      go : (a : Bool) → eqb n 0 ≡ a → (d : Bool) → eqb (length p) 0 ≡ d
-          → Next c g p (cond a (fed E.End 0 (head [])) (cond d (fed E.More 0 (text n)) (fed (E.Text (min n (length p))) (min n (length p)) (text (n - min n (length p))))))
+      given : (a d : Bool) → Fed
+      given a d =
+          let m = min n (length p) in
+          cond a (fed E.End 0 (head [])) (cond d (fed E.More 0 (text n)) (fed (E.Text m) m (text (n - m))))
+
+      go : (a : Bool) → eqb n 0 ≡ a → (d : Bool) → eqb (length p) 0 ≡ d → Next c g p (given a d)
       go true e d f = end-next n (eqb-true n 0 e) r
       go false e true f = stay-text n r
       go false e false f = part-next n (min n (length p)) r refl
@@ -267,7 +296,8 @@ pub record Reached (x : Run) : Type 0 where
 
 fed-reached : (x : Run) (p : List ℕ) → AtMost 0xFF p → Reached x → Reached (fedMore x p)
 fed-reached x p b r =
-    let e : fedOf (x .reader) p ≡ start (r .state) p = ap (λ (y : FrameReader). fedOf y p) (r .reader-is) ∙ fed-is (x .bytes) (x .handed) (r .state) p (r .right) in
+    let e : fedOf (x .reader) p ≡ start (r .state) p
+    = ap (λ (y : FrameReader). fedOf y p) (r .reader-is) ∙ fed-is (x .bytes) (x .handed) (r .state) p (r .right) in
     let (s, f, k) = next (x .bytes) (x .handed) p b (r .state) (r .right) in
     rw e (record { state = s; reader-is = f; right = k })
 
@@ -278,5 +308,6 @@ feeds-reached (p ∷ ps) x (b, bs) r = feeds-reached ps (fedMore x p) bs (fed-re
 pub reached : (ps : List (List ℕ)) → AllBytes ps → Reached (feeds fresh ps)
 unfolding all
 reached ps b =
-    feeds-reached ps fresh b
-    (record { state = head []; reader-is = refl; right = record { none-open = refl; taken = tt; is = refl; begun = record { few = omega arith; length-ok = λ h. absurd (omega arith) }; bytes = tt } })
+    let begun : Begun [] = record { few = omega arith; length-ok = λ h. absurd (omega arith) } in
+    let right : Right [] (fresh .handed) (head []) = record { none-open = refl; taken = tt; is = refl; begun = begun; bytes = tt } in
+    feeds-reached ps fresh b (record { state = head []; reader-is = refl; right = right })

@@ -17,13 +17,20 @@ Inv-loop piece state₀ i₀ state i = (i ≤ length piece) × On state × (eat 
 abbrev μ-loop : tie.MeasureT-loop
 μ-loop piece state₀ i₀ state i = length piece - i
 
+-- from where the turn's answer is known: where the turn began, and the call
+abbrev top : tie.After-status-in Inv-loop μ-loop → tie.At-loop Inv-loop μ-loop
+top c = c .before .before .before .before
+
+abbrev start : tie.After-status-in Inv-loop μ-loop → tie.Start Inv-loop μ-loop
+start c = top c .before .before
+
 -- the turn, where its answer is known
 turn : (c : tie.After-status-in Inv-loop μ-loop)
-    → let l = c .before .before .before .before .loop in
-    Turned (c .before .before .before .before .before .before .args .piece .now) (stateOf (c .before .before .before .before .before .before .args .r)) (l .i) (c .before .step-byte .result) (c .status-in .result)
+    → Turned (start c .args .piece .now) (stateOf (start c .args .r)) (top c .loop .i) (c .before .step-byte .result) (c .status-in .result)
 turn c =
-    let l = c .before .before .before .before .loop in
-    turned _ _ (l .state) (l .i) _ _ (omega arith) (omega (arith, c .before .before .shared-slice-known2 .given (l .i))) (l .inv .1) (l .inv .2) (c .before .step-byte .ensures) (c .status-in .ensures)
+    let l = top c .loop in
+    let byte = c .before .before .shared-slice-known2 .given (l .i) in
+    turned _ _ (l .state) (l .i) _ _ (omega arith) (omega (arith, byte)) (l .inv .1) (l .inv .2) (c .before .step-byte .ensures) (c .status-in .ensures)
 
 loop-holds : tie.Need-loop-holds Inv-loop μ-loop
 loop-holds c =
@@ -73,7 +80,8 @@ returns-2 c =
 returns-3 : tie.Need-returns-3 Inv-loop μ-loop
 returns-3 c =
     let l = c .before .loop in
-    sym (l .inv .2 ∙ eat-end (stateOf (l .state)) (l .i) (l .i) (c .before .before .before .args .piece .now) (omega arith) ∙ ap (fed More (l .i)) (on-holds (l .state) (l .inv .1)))
+    let p = c .before .before .before .args .piece .now in
+    sym (l .inv .2 ∙ eat-end (stateOf (l .state)) (l .i) (l .i) p (omega arith) ∙ ap (fed More (l .i)) (on-holds (l .state) (l .inv .1)))
 
 pub eat-all-spec : {M : Type 1} → statement M
 eat-all-spec =

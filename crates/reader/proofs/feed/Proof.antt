@@ -14,10 +14,22 @@ use Rattle.reader.specs.declared.Answer.the-variants.{More, Complete, Re
 use Rattle.reader.proofs.feed.Statement.{statement}
 use Rattle.reader.proofs.feed.Tie as tie
 
+-- from where the answer of the state is known: the call, and that the list allows the reader
+abbrev call : tie.After-status-in → tie.Start
+call c = c .before .before .before .before
+
+listed : (c : tie.After-status-in) → allows (call c .args .r) ≡ true
+listed c = sym (c .before .before .allows-state .ensures) ∙ c .before .if1 .taken
+
 -- a state that the list allows, by its answer
 allowed : (r : Reader) (p : List ℕ) (a : Answer) → allows r ≡ true → status (stateOf r) ≡ a → start a r p ≡ fedOf r p
 unfolding fedOf
 allowed r p a e f = rw (e, f)
+
+-- the call's answer is the definition's, by the answer of its state
+answered : (c : tie.After-status-in) (a : Answer) → c .status-in .result ≡ a
+    → start a (call c .args .r) (call c .args .piece .now) ≡ fedOf (call c .args .r) (call c .args .piece .now)
+answered c a e = allowed (call c .args .r) (call c .args .piece .now) a (listed c) (sym (c .status-in .ensures) ∙ e)
 
 -- once complete
 nothing : (r : Reader) (p : List ℕ) → length p ≡ 0 → fed Complete 0 r ≡ start Complete r p
@@ -38,9 +50,7 @@ enum-told : tie.Need-enum-told
 enum-told c = search needs
 
 eat-all-requires : tie.Need-eat-all-requires
-eat-all-requires c κs =
-    let b = c .before .before in
-    (sym (b .before .before .allows-state .ensures) ∙ b .before .if1 .taken, sym (b .status-in .ensures) ∙ c .enum-told .given .1)
+eat-all-requires c κs = (listed (c .before .before), sym (c .before .before .status-in .ensures) ∙ c .enum-told .given .1)
 
 enum-told-2 : tie.Need-enum-told-2
 enum-told-2 c = search needs
@@ -49,32 +59,20 @@ enum-known-answer : tie.Need-enum-known-answer
 enum-known-answer c = search needs
 
 returns : tie.Need-returns
-returns c =
-    let b = c .before .before .before in
-    let a = b .before .before .before .before .args in
-    c .eat-all .ensures
-    ∙ allowed (a .r) (a .piece .now) More (sym (b .before .before .allows-state .ensures) ∙ b .before .if1 .taken) (sym (b .status-in .ensures) ∙ c .before .enum-told .given .1)
+returns c = c .eat-all .ensures ∙ answered (c .before .before .before) More (c .before .enum-told .given .1)
 
 returns-2 : tie.Need-returns-2
 returns-2 c =
     let b = c .before .before .before in
-    let a = b .before .before .before .before .args in
-    nothing (a .r) (a .piece .now) (c .if2 .taken)
-    ∙ allowed (a .r) (a .piece .now) Complete (sym (b .before .before .allows-state .ensures) ∙ b .before .if1 .taken) (sym (b .status-in .ensures) ∙ c .before .enum-told2 .given .1)
+    nothing (call b .args .r) (call b .args .piece .now) (c .if2 .taken) ∙ answered b Complete (c .before .enum-told2 .given .1)
 
 returns-3 : tie.Need-returns-3
 returns-3 c =
     let b = c .before .before .before in
-    let a = b .before .before .before .before .args in
-    something (a .r) (a .piece .now) (c .if2 .left)
-    ∙ allowed (a .r) (a .piece .now) Complete (sym (b .before .before .allows-state .ensures) ∙ b .before .if1 .taken) (sym (b .status-in .ensures) ∙ c .before .enum-told2 .given .1)
+    something (call b .args .r) (call b .args .piece .now) (c .if2 .left) ∙ answered b Complete (c .before .enum-told2 .given .1)
 
 returns-4 : tie.Need-returns-4
-returns-4 c =
-    let b = c .before .before .before in
-    let a = b .before .before .before .before .args in
-    allowed (a .r) (a .piece .now) (Refusal (c .before .answer .given .0 .0)) (sym (b .before .before .allows-state .ensures) ∙ b .before .if1 .taken)
-    (sym (b .status-in .ensures) ∙ c .before .answer .given .1)
+returns-4 c = answered (c .before .before .before) (Refusal (c .before .answer .given .0 .0)) (c .before .answer .given .1)
 
 returns-5 : tie.Need-returns-5
 unfolding fedOf
