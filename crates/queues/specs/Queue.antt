@@ -5,6 +5,7 @@ use mathlib.Core.List.{List, [], _∷_, _++_}
 use mathlib.Core.Path.{_≡_}
 use lib.Dec.{eqb, leb}
 use lib.ListN.{length, drop, replicate}
+use Rattle.wire.specs.Each.{Each}
 use Rattle.wire.specs.declared.Counted.{Counted}
 use Rattle.wire.specs.declared.Counted.the-variants as C
 use Rattle.outbox.specs.Outbox.{frameNumber, appendOf, appendAfter, nextNumber, nextOf, dropOf, controlAfter, dataAfter}
@@ -32,8 +33,7 @@ usedOf b = length (joined (b .waiting))
 
 -- each frame that waits is one that append takes
 abbrev pub Frames : List (List ℕ) → Type 0
-Frames [] = Unit {0}
-Frames (f ∷ q) = (frameNumber f ≡ 0) × Frames q
+Frames q = Each (λ (f : List ℕ). frameNumber f ≡ 0) q
 
 -- ---- what a queue does
 

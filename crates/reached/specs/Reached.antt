@@ -4,6 +4,7 @@ use mathlib.Core.Bool.{true, false}
 use mathlib.Core.List.{List, [], _∷_}
 use mathlib.Core.Path.{_≡_}
 use lib.ListN.{length, getD}
+use Rattle.wire.specs.Each.{Each}
 use Rattle.frame.specs.declared.Header.{Header}
 use Rattle.slots.specs.Slots.{free}
 use Rattle.fresh.specs.Fresh.{isHeld}
@@ -32,8 +33,7 @@ abbrev pub Fits : Event → Type 0
 Fits e = (h : Header) → e ≡ onReceived (Data h) → h .byte3 < 2 ^ 8
 
 abbrev pub AllFit : List Happened → Type 0
-AllFit [] = Unit {0}
-AllFit (e ∷ l) = Fits (e .event) × AllFit l
+AllFit l = Each (λ (e : Happened). Fits (e .event)) l
 
 -- each table has 32 slots, and the next own number four bytes
 pub record Sized (s : Session) : Type 0 where

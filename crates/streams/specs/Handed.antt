@@ -4,6 +4,7 @@ use mathlib.Core.List.{List, [], _∷_, _++_}
 use mathlib.Core.Logic.{_↔_}
 use mathlib.Core.Path.{_≡_}
 use lib.ListN.{take}
+use Rattle.wire.specs.Each.{Each}
 use Rattle.wire.specs.Number.{AtMost}
 use Rattle.frames.specs.State.{State, head, text, refused, readerOf, stateOf}
 use Rattle.frames.specs.Feed.{fedOf, endOf}
@@ -72,8 +73,7 @@ abbrev pub fresh : Run
 fresh = run [] nothing (readerOf (head []))
 
 abbrev pub AllBytes : List (List ℕ) → Type 0
-AllBytes [] = Unit {0}
-AllBytes (p ∷ ps) = AtMost 0xFF p × AllBytes ps
+AllBytes ps = Each (AtMost 0xFF) ps
 
 -- ---- what a run comes to
 

@@ -3,6 +3,7 @@ use Prim.Native.Nat.{ℕ, _+_, _≤_, _<_}
 use mathlib.Core.List.{List, [], _∷_, _++_}
 use mathlib.Core.Path.{_≡_}
 use lib.ListN.{length, getD}
+use Rattle.wire.specs.Each.{Each}
 use Rattle.wire.specs.Longest.{longest}
 use Rattle.frame.specs.Header.{InRange}
 use Rattle.frame.specs.Frame.{lengthIn, lengthNumber, kindNumber, frameOf}
@@ -23,8 +24,7 @@ pub record Taken (f : Frame) : Type 0 where
   pub kind : kindNumber (f .header .stype) (10 + length (f .text)) ≡ 0
 
 abbrev pub AllTaken : List Frame → Type 0
-AllTaken [] = Unit {0}
-AllTaken (f ∷ fs) = Taken f × AllTaken fs
+AllTaken fs = Each Taken fs
 
 -- end to end
 unfoldable pub all : List Frame → List ℕ
