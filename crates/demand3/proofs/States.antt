@@ -1,6 +1,6 @@
 -- The list behind 14: no state reached from a fresh reader breaks it, and it is exact, since one that it allows and that is not refused can still be completed.
 use Prim.Native.Nat.{ℕ, zero, suc, _+_, _-_, _≤_, _<_}
-use mathlib.Core.Path.{_≡_, refl, ap, subst}
+use mathlib.Core.Path.{_≡_, refl, sym, ap, subst, _∙_}
 use mathlib.Core.Bool.{true}
 use mathlib.Core.List.{List, [], _∷_}
 use native.Mathlib.Omega.{arith}
@@ -12,7 +12,7 @@ use Rattle.follow.proofs.Follow.{Known, isList, isPlain}
 use Rattle.follow.proofs.Grammar.{begin}
 use Rattle.reader.specs.State.{State, stateOf, readerOf, fresh}
 use Rattle.reader.specs.Step.{step}
-use Rattle.reader.specs.Feed.{allows, status, after, eat, fedOf}
+use Rattle.reader.specs.Feed.{allows, statusAt, status, statusOf, after, eat, fedOf}
 use Rattle.reader.proofs.Rest.{RestAt, Rest, LiveAt, Live}
 use Rattle.reader.specs.declared.Phase.{Phase}
 use Rattle.reader.specs.declared.Phase.the-variants.{Format, Length, Content, Refused}
@@ -21,7 +21,7 @@ use Rattle.reader.specs.declared.Answer.{Answer}
 use Rattle.reader.specs.declared.Answer.the-variants.{More, Complete, Refusal}
 use Rattle.reader.proofs.Right.{Out, goes, ends, step-right, after-known}
 use Rattle.reader.proofs.Allowed.{Going, allows-held}
-use Rattle.reader.proofs.Eats.{end-complete}
+use Rattle.reader.proofs.Eats.{end-complete, more-left}
 use Rattle.demand3.specs.Feeds.{joined, feeds, NotRefused}
 use Rattle.demand3.proofs.Along.{along-fresh}
 use Rattle.demand3.proofs.Feeding.{along-holds, feeds-go}
@@ -32,6 +32,12 @@ pub reached-allowed : (n : ℕ) (ps : List (List ℕ)) → AtMost 0xFF (joined p
 reached-allowed n ps b =
     let (w, e) = feeds-go ps n [] (fresh n) (along-fresh n) b in
     rw e (along-holds n (w .through) (w .to) (w .along) .allowed)
+
+-- So what such a reader answers to `status_of` is the status that demand 3 speaks of.
+pub status-answered : (n : ℕ) (ps : List (List ℕ)) → AtMost 0xFF (joined ps)
+    → statusOf (feeds (readerOf (fresh n)) ps .1) ≡ status (stateOf (feeds (readerOf (fresh n)) ps .1))
+unfolding statusOf
+status-answered n ps b = rw (reached-allowed n ps b)
 
 -- ---- what may follow is bytes
 
@@ -90,6 +96,14 @@ going Format h = tt
 going (Length c j v) h = tt
 going (Content c l) h = tt
 going (Refused e) h = h e refl
+
+-- In a state that the list allows, and that answers more, fewer than N bytes are read.
+pub more-within : (r : Reader) → length (r .awaited) ≡ 16 → allows r ≡ true → status (stateOf r) ≡ More → r .read < r .size
+unfolding status
+more-within r full a e = more-left (stateOf r) (allows-held r full (going (r .phase) by-phase) a .live) e
+  where
+    by-phase : (x : ℕ) → r .phase ≡ Refused x → ⊥
+    by-phase x q = let z : _≡_ {A = ℕ} 0 1 = cc (sym (ap (λ (p : Phase). statusAt p (stackOf (r .awaited) (r .level))) q) ∙ e) in omega arith
 
 -- A state that the list allows, and that is not refused, is one that N less the bytes read more bytes complete.
 pub allowed-completes : (r : Reader) → length (r .awaited) ≡ 16 → allows r ≡ true → NotRefused r

@@ -2,11 +2,11 @@
 use Prim.Native.Nat.{ℕ, suc, _+_, _-_, _≤_, min}
 use mathlib.Core.Path.{_≡_, refl, sym, ap, subst, _∙_}
 use mathlib.Core.Bool.{Bool, true, false, cond}
-use mathlib.Core.List.{List, [], _∷_, _++_, append-nil}
+use mathlib.Core.List.{List, [], _∷_, _++_, append-assoc, append-nil}
 use native.Mathlib.Omega.{arith}
 use borrow.Author.Tests.{eqb-true}
 use lib.Dec.{eqb}
-use lib.ListN.{length}
+use lib.ListN.{length, take, drop, take-append-drop}
 use Rattle.frames.specs.State.{State, head, text, refused, stateOf}
 use Rattle.frames.specs.Feed.{allows, after, fed, reached, eat, textFed, start, fedOf, endIn, endOf}
 use Rattle.frames.specs.declared.Event.the-variants.{More, Text, End, Refusal}
@@ -14,11 +14,21 @@ use Rattle.frames.specs.declared.Fed.{Fed}
 use Rattle.frames.specs.declared.FrameReader.{FrameReader}
 use Rattle.frames.proofs.Held.{state-reader}
 use Rattle.streams.specs.Stream.{Frame, AllTaken, all, Unfinished, Split, WholeFrames, EndsInside, EndsWrong}
-use Rattle.streams.specs.Handed.{Run, wholeOf, feeds, fresh, AllBytes, HandedOut, Ends}
+use Rattle.streams.specs.Handed.{Run, wholeOf, fedMore, feeds, fresh, AllBytes, FedAll, HandedOut, Ends}
 use Rattle.streams.proofs.Once.{split-once}
 use Rattle.streams.proofs.Streams as streams
-use Rattle.streams.proofs.Rests.{Came, came, rest-none, none-rest, rest-inside, inside-rest, rest-wrong, wrong-rest}
+use Rattle.streams.proofs.Rests.{Came, came, rest-none, none-rest, rest-inside, inside-rest, rest-wrong, wrong-rest, rest-one}
 use Rattle.streams.proofs.Rests.{none-unfinished, inside-unfinished, wrong-unfinished, rest-unfinished}
+
+-- of a stream that is fed to its end all is consumed
+all-consumed : (ps : List (List ℕ)) (x : Run) (s : List ℕ) → FedAll x ps s → feeds x ps .bytes ≡ x .bytes ++ s
+all-consumed [] x s e = sym (ap (λ (y : List ℕ). x .bytes ++ y) e ∙ append-nil (x .bytes))
+all-consumed (p ∷ ps) x s (t, e, f) =
+    let k = fedOf (x .reader) p .consumed in
+    let joins : take k p ++ (drop k p ++ t) ≡ p ++ t = sym (append-assoc (take k p) (drop k p) t) ∙ ap (λ (y : List ℕ). y ++ t) (take-append-drop k p) in
+    all-consumed ps (fedMore x p) (drop k p ++ t) f
+    ∙ append-assoc (x .bytes) (take k p) (drop k p ++ t)
+    ∙ ap (λ (y : List ℕ). x .bytes ++ y) (joins ∙ sym e)
 
 module _ (ps : List (List ℕ)) (b : AllBytes ps) where
   abbrev x : Run
@@ -39,10 +49,10 @@ module _ (ps : List (List ℕ)) (b : AllBytes ps) where
   split = record { taken = came-to .taken; is = came-to .is; unfinished = rest-unfinished (came-to .kind) }
 
   -- THE FRAMES HANDED OUT ARE THE STREAM'S. For every way to feed a stream, the frames handed out, headers and texts, are in order those of the bytes
-  -- consumed, and bytes have one list of frames and one rest (Once: split-once): nothing of one message reaches another. Where the reader is refused,
-  -- the rest is the number's cause.
+  -- consumed, and bytes have one list of frames and one rest (Once: split-once); each header, text part and end comes in its turn, and each text is as long
+  -- as its header said: nothing of one message reaches another. Where the reader is refused, the rest is the number's cause.
   pub frames-handed-out : HandedOut x
-  frames-handed-out = record { rest = came-to .rest; split = split; cause = came-to .cause }
+  frames-handed-out = record { rest = came-to .rest; split = split; in-turn = came-to .in-turn; cause = came-to .cause }
 
   end-is : endOf (x .reader) ≡ endIn (stateOf (x .reader))
   unfolding endOf
@@ -53,8 +63,14 @@ module _ (ps : List (List ℕ)) (b : AllBytes ps) where
   same-rest fs rest taken is unfinished = split-once (x .bytes) _ fs (came-to .rest) rest split (record { taken = taken; is = is; unfinished = unfinished }) .1
 
   -- THE NUMBER OF THE STREAM'S END: 0 exactly where the bytes are whole frames, 13 exactly where they end inside one, and 10, 11 or 12 exactly for its cause.
-  pub ends : Ends x
-  ends = record { whole = (whole-is, is-whole); inside = (inside-is, is-inside); wrong = λ e h k. (wrong-is e h k, is-wrong e) }
+  pub ends : Ends (x .reader) (x .bytes)
+  ends =
+      record {
+        whole = (whole-is, is-whole);
+        inside = (inside-is, is-inside);
+        wrong = λ e h k. (wrong-is e h k, is-wrong e);
+        no-other = rw end-is (rest-one (came-to .kind));
+      }
     where
       whole-is : endOf (x .reader) ≡ 0 → WholeFrames (x .bytes)
       whole-is e =
@@ -79,6 +95,10 @@ module _ (ps : List (List ℕ)) (b : AllBytes ps) where
       is-wrong e (fs, rest, t, i, w) =
           let z = same-rest fs rest t i (wrong-unfinished rest e w) in
           end-is ∙ rest-wrong (came-to .kind) e (rw z w)
+
+  -- The same of a stream that is fed to its end: all of it was consumed.
+  pub stream-ends : (s : List ℕ) → FedAll fresh ps s → Ends (x .reader) s
+  stream-ends s f = subst (Ends (x .reader)) (all-consumed ps fresh s f) ends
 
 -- ---- what a host's loop stands on
 
@@ -114,7 +134,7 @@ start-more (text n) p e = go (eqb n 0) (eqb (length p) 0) refl e
     go false false f e = absurd (let z : _≡_ {A = ℕ} 0 1 = cc in omega arith)
 start-more (refused n) p e = absurd (let z : _≡_ {A = ℕ} 0 1 = cc in omega arith)
 
--- With more the whole piece was consumed: a host that feeds what is left until it is answered more, or a refusal, has fed all.
+-- With more the whole piece was consumed: a host that feeds what is left until it is answered more has fed all of it.
 pub more-all : (r : FrameReader) (p : List ℕ) → fedOf r p .event ≡ More → fedOf r p .consumed ≡ length p
 unfolding fedOf
 more-all r p = go (allows r)

@@ -3,6 +3,7 @@ use Prim.Native.Nat.{ℕ, zero, suc, _+_, _-_, _≤_, _<_}
 use mathlib.Core.Path.{_≡_, refl, sym, ap, ap₂, subst, _∙_}
 use mathlib.Core.Bool.{Bool, true, false}
 use mathlib.Core.List.{List, [], _∷_, _++_, append-nil}
+use mathlib.Core.Logic.{_⊎_, inl, inr}
 use native.Mathlib.Nat.{mod-eq-of-lt}
 use native.Mathlib.Omega.{arith}
 use borrow.Author.Tests.{ne-eqb, lt-ltb, le-ltb, eqb-true, eqb-false}
@@ -19,8 +20,8 @@ use Rattle.frame.proofs.Laws.{bytes-length, frame-length, length-range, range-l
 use Rattle.frames.specs.State.{State, head, text, refused}
 use Rattle.frames.specs.Feed.{headNumber, endIn}
 use Rattle.frames.proofs.Heads.{number-four, number-whole, number-other}
-use Rattle.streams.specs.Stream.{AllTaken, all, Unfinished, Inside, Wrong, too-short, too-long, other-length}
-use Rattle.streams.specs.Handed.{Handed, wholeOf}
+use Rattle.streams.specs.Stream.{frame, AllTaken, all, Unfinished, Inside, Wrong, too-short, too-long, other-length}
+use Rattle.streams.specs.Handed.{Handed, wholeOf, InTurn}
 use Rattle.streams.proofs.Once.{frame-says}
 use Rattle.streams.proofs.Streams.{Right, wrong-range, text-taken}
 
@@ -85,6 +86,11 @@ module _ {rest : List ℕ} where
   wrong-rest (none z) e h k q = absurd (omega arith)
   wrong-rest (inside i) e h k q = absurd (omega arith)
   wrong-rest (wrong x w) e h k q = subst (Wrong rest) q w
+
+  pub rest-one : {n : ℕ} → Rest rest n → (n ≡ 0) ⊎ ((n ≡ 13) ⊎ ((10 ≤ n) × (n ≤ 12)))
+  rest-one (none z) = inl refl
+  rest-one (inside i) = inr (inl refl)
+  rest-one (wrong x w) = inr (inr (wrong-range rest x w))
 
 -- ---- no whole frame stands in a rest
 
@@ -161,13 +167,14 @@ pub record Came (c : List ℕ) (g : Handed) (s : State) : Type 0 where
   pub taken : AllTaken (wholeOf g s)
   pub is : c ≡ all (wholeOf g s) ++ rest
   pub kind : Rest rest (endIn s)
+  pub in-turn : InTurn s (g .current)
   pub cause : (e : ℕ) → s ≡ refused e → Wrong rest e
 
 clash : {A : Type 0} → _≡_ {A = ℕ} 0 1 → A
 clash e = absurd (omega arith)
 
 pub came : (c : List ℕ) (g : Handed) (s : State) → Right c g s → Came c g s
-came c g (head []) r = record { rest = []; taken = r .taken; is = r .is; kind = none refl; cause = λ e q. clash cc }
+came c g (head []) r = record { rest = []; taken = r .taken; is = r .is; kind = none refl; in-turn = r .none-open; cause = λ e q. clash cc }
 came c g (head (b ∷ bs)) r =
     let begun = r .begun in
     record {
@@ -183,21 +190,37 @@ came c g (head (b ∷ bs)) r =
             kind-right = λ h. absurd (omega (arith, begun .few));
           }
           );
+      in-turn = r .none-open;
       cause = λ e q. clash cc;
     }
 came c g (text zero) r =
     let (t, e) = text-taken r in
-    record { rest = []; taken = t; is = e ∙ sym (append-nil (all (wholeOf g (text zero)))); kind = none refl; cause = λ e q. clash cc }
+    record {
+      rest = [];
+      taken = t;
+      is = e ∙ sym (append-nil (all (wholeOf g (text zero))));
+      kind = none refl;
+      in-turn = (frame (r .header) (r .so-far), r .open-is);
+      cause = λ e q. clash cc;
+    }
 came c g (text (suc n)) r =
     record {
       rest = bytes (r .header) (r .so-far) (suc n) (r .few);
       taken = r .taken;
       is = r .is;
       kind = rw (ne-eqb (suc n) 0 (λ e. omega arith)) (inside (text-inside (r .header) (r .so-far) (suc n) (r .few) (omega arith) (r .kind)));
+      in-turn = (frame (r .header) (r .so-far), r .open-is);
       cause = λ e q. clash cc;
     }
 came c g (refused x) r =
-    record { rest = r .last; taken = r .taken; is = r .is; kind = wrong x (r .cause); cause = λ e q. subst (Wrong (r .last)) (same q) (r .cause) }
+    record {
+      rest = r .last;
+      taken = r .taken;
+      is = r .is;
+      kind = wrong x (r .cause);
+      in-turn = r .none-open;
+      cause = λ e q. subst (Wrong (r .last)) (same q) (r .cause);
+    }
   where
     same : {e : ℕ} → refused x ≡ refused e → x ≡ e
     same q = cc

@@ -25,7 +25,7 @@ use Rattle.frames.proofs.Held.{state-reader}
 use Rattle.frames.specs.declared.Fed.{Fed}
 use Rattle.frames.specs.declared.FrameReader.{FrameReader}
 use Rattle.streams.specs.Stream.{Frame, frame, AllTaken, all, Wrong, too-short, too-long, other-length}
-use Rattle.streams.specs.Handed.{Current, none, opened, Handed, closed, after, Run, fedMore, feeds, fresh, AllBytes}
+use Rattle.streams.specs.Handed.{Current, none, opened, begun, longer, ended, Handed, closed, after, Run, fedMore, feeds, fresh, AllBytes}
 use Rattle.streams.proofs.Heads.{whole, bad, Ate, on, off, eat-ate}
 
 -- ---- what is known in each state of the bytes c consumed and of what was handed out
@@ -41,7 +41,7 @@ pub record InHead (c : List ℕ) (g : Handed) (bs : List ℕ) : Type 0 where
 pub record InText (c : List ℕ) (g : Handed) (n : ℕ) : Type 0 where
   pub header : Header
   pub so-far : List ℕ
-  pub open-is : g .current ≡ opened (frame header so-far)
+  pub open-is : g .current ≡ opened (frame header so-far) (length so-far + n)
   pub taken : AllTaken (g .done)
   pub is : c ≡ all (g .done) ++ (bytesOf 4 (10 + (length so-far + n)) ++ (headerBytes header ++ so-far))
   pub range : InRange header
@@ -189,13 +189,14 @@ module _ (c : List ℕ) (g : Handed) (p : List ℕ) (b : AtMost 0xFF p) where
       let ten : length (drop 4 t) ≡ 10 = rw length-drop (omega arith) in
       let low = length-range (lengthIn t) z in
       let m : lengthIn t ≡ 10 + (0 + (lengthIn t - 10)) = omega (arith, low .0) in
+      let zero-more : lengthIn t - 10 ≡ 0 + (lengthIn t - 10) = omega arith in
       rw (e, to) (
         text (lengthIn t - 10),
         refl,
         record {
           header = headerOf (drop 4 t);
           so-far = [];
-          open-is = refl;
+          open-is = ap (λ (y : Current). begun y (headerOf (drop 4 t)) (lengthIn t - 10)) (r .none-open) ∙ ap (opened (frame (headerOf (drop 4 t)) [])) zero-more;
           taken = r .taken;
           is = behind c (all (g .done)) bs u p (0 + length u) (r .is) took ∙ ap (λ (x : List ℕ). all (g .done) ++ x) (head-bytes t n at z);
           range = ten-range (drop 4 t) ten (at-most-drop 0xFF 4 t at);
@@ -216,14 +217,14 @@ module _ (c : List ℕ) (g : Handed) (p : List ℕ) (b : AtMost 0xFF p) where
   part-next n m r e =
       let k : length (take m p) ≡ m = rw length-take (omega arith) in
       let x = r .so-far in
-      let longer : length (x ++ take m p) ≡ length x + m = length-append x (take m p) ∙ ap (λ (j : ℕ). length x + j) k in
+      let more : length (x ++ take m p) ≡ length x + m = length-append x (take m p) ∙ ap (λ (j : ℕ). length x + j) k in
       let same : length (x ++ take m p) + (n - m) ≡ length x + n = omega arith in (
         text (n - m),
         refl,
         record {
           header = r .header;
           so-far = x ++ take m p;
-          open-is = ap (λ (y : Current). Rattle.streams.specs.Handed.longer y (take m p)) (r .open-is);
+          open-is = ap (λ (y : Current). longer y (take m p)) (r .open-is) ∙ ap (opened (frame (r .header) (x ++ take m p))) (sym same);
           taken = r .taken;
           is =
               behind c (all (g .done)) (bytesOf 4 (10 + (length x + n)) ++ (headerBytes (r .header) ++ x)) (take m p) p m (r .is) refl
@@ -238,11 +239,12 @@ module _ (c : List ℕ) (g : Handed) (p : List ℕ) (b : AtMost 0xFF p) where
 
   end-next : (n : ℕ) → n ≡ 0 → InText c g n → Next c g p (fed E.End 0 (head []))
   end-next n z r =
-      let (t, e) = text-taken (subst (InText c g) z r) in (
+      let (t, e) = text-taken (subst (InText c g) z r) in
+      let same : length (r .so-far) ≡ length (r .so-far) + n = omega arith in (
         head [],
         refl,
         record {
-          none-open = refl;
+          none-open = ap ended (r .open-is) ∙ rw (eq-eqb (length (r .so-far)) (length (r .so-far) + n) same);
           taken = t;
           is = append-nil c ∙ e ∙ sym (append-nil (all (closed (g .done) (g .current))));
           begun = record { few = omega arith; length-ok = λ h. absurd (omega arith) };
