@@ -16,7 +16,7 @@ use Rattle.item.specs.Item.{Tree, good, lean, Content, Says, Good, Lean, meanin
 use Rattle.item.proofs.Codes.{plain-not-list}
 use Rattle.item.proofs.Laws as laws
 use Rattle.item.proofs.Reading as reading
-use Rattle.wire.specs.Each.{Each}
+use Rattle.wire.specs.Lists.{Each}
 use Rattle.rows.specs.Row.{rowsOf, tableOf, partAt, textOf}
 use Rattle.rows.specs.Rows.{Has, rowsOfText, rowsIn}
 use Rattle.rows.specs.declared.Row.{Row}

@@ -4,7 +4,7 @@ use mathlib.Core.Path.{_≡_, refl, ap, _∙_}
 use mathlib.Core.List.{List, [], _∷_, _++_}
 use native.Mathlib.Omega.{arith}
 use lib.ListN.{length, drop, length-append}
-use Rattle.wire.specs.Each.{Each}
+use Rattle.wire.specs.Lists.{Each}
 use Rattle.wire.specs.Number.{numberOf, bytesOf}
 use Rattle.item.specs.Code.{A, BOOLEAN, kindOf, allowed, largest}
 use Rattle.item.specs.Item.{plain, one, good, fewest, Lengths, Content, header, Says, told, leanItem, leanOf}

@@ -6,6 +6,7 @@ use mathlib.Core.Logic.{_↔_}
 use native.Mathlib.Omega.{arith}
 use lib.ListN.{length, take, length-append}
 use lib.Seq.{take-at, take-all}
+use Rattle.wire.specs.Lists.{joined}
 use Rattle.wire.specs.Number.{AtMost}
 use Rattle.item.specs.Item.{empty, Good}
 use Rattle.reader.specs.State.{State, stateOf, readerOf, fresh}
@@ -17,7 +18,7 @@ use Rattle.reader.specs.declared.Answer.{Answer}
 use Rattle.reader.specs.declared.Answer.the-variants.{More, Complete, Refusal}
 use Rattle.reader.proofs.Eats.{more-left}
 use Rattle.demand3.specs.Begins.{Begins}
-use Rattle.demand3.specs.Feeds.{joined, feeds, answerTo}
+use Rattle.demand3.specs.Feeds.{feeds, answerTo}
 use Rattle.demand3.specs.Verdict.{Verdict, goes-on, complete, before-any, at-byte}
 use Rattle.demand3.proofs.Along.{Stands, Along, nothing, never, stands, falls, along-fresh}
 use Rattle.demand3.proofs.Feeding.{along-holds, feed-answers, feeds-go}

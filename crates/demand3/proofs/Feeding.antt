@@ -5,6 +5,7 @@ use mathlib.Core.Bool.{true}
 use mathlib.Core.List.{List, [], _∷_, _++_, append-assoc, append-nil}
 use native.Mathlib.Omega.{arith}
 use lib.ListN.{length, length-append}
+use Rattle.wire.specs.Lists.{joined}
 use Rattle.wire.specs.Number.{AtMost}
 use Rattle.reader.specs.State.{State, state, stateOf, readerOf, refused}
 use Rattle.reader.specs.Step.{step}
@@ -16,7 +17,7 @@ use Rattle.reader.specs.declared.Fed.{Fed}
 use Rattle.reader.specs.declared.Answer.{Answer}
 use Rattle.reader.specs.declared.Answer.the-variants.{More, Complete, Refusal}
 use Rattle.reader.proofs.Allowed.{state-reader, live-allows, refused-allows}
-use Rattle.demand3.specs.Feeds.{joined, feeds, answerTo}
+use Rattle.demand3.specs.Feeds.{feeds, answerTo}
 use Rattle.demand3.proofs.Along.{Stands, Along, nothing, never, stands, falls, along-step}
 
 -- the reader that holds a state along the way is allowed by the list, and holds that state

@@ -5,6 +5,7 @@ use mathlib.Core.Bool.{true}
 use mathlib.Core.List.{List, [], _∷_}
 use native.Mathlib.Omega.{arith}
 use lib.ListN.{length}
+use Rattle.wire.specs.Lists.{joined}
 use Rattle.wire.specs.Number.{AtMost}
 use Rattle.item.proofs.Codes.{plain-small, largest-le}
 use Rattle.levels.specs.Levels.{stackOf}
@@ -22,7 +23,7 @@ use Rattle.reader.specs.declared.Answer.the-variants.{More, Complete, Refusal}
 use Rattle.reader.proofs.Right.{Out, goes, ends, step-right, after-known}
 use Rattle.reader.proofs.Allowed.{Going, allows-held}
 use Rattle.reader.proofs.Eats.{end-complete, more-left}
-use Rattle.demand3.specs.Feeds.{joined, feeds, NotRefused}
+use Rattle.demand3.specs.Feeds.{feeds, NotRefused}
 use Rattle.demand3.proofs.Along.{along-fresh}
 use Rattle.demand3.proofs.Feeding.{along-holds, feeds-go}
 use Rattle.demand3.proofs.Demand3.{complete-end, never-refused}

@@ -8,11 +8,12 @@ use borrow.Author.Tests.{ne-eqb, le-leb, eqb-true}
 use lib.Dec.{eqb, leb}
 use lib.ListN.{length, take, drop, replicate, length-append}
 use lib.Seq.{take-at, drop-at, take-append-le, drop-append-add}
+use Rattle.wire.specs.Lists.{joined}
 use Rattle.wire.specs.Number.{numberOf}
 use Rattle.frame.specs.Frame.{lengthIn}
 use Rattle.outbox.specs.Outbox.{frameNumber, front, wholeFrom, holds, appendOf, nextNumber, nextOf, sizeOf, moved, dropOf}
 use Rattle.outbox.proofs.Fronts.{frame-fits, front-is}
-use Rattle.queues.specs.Queue.{Box, box, joined, bufferOf, usedOf, Frames, joins, Act, toControl, toData, dropNext, Boxes, boxes, acted, actedAll}
+use Rattle.queues.specs.Queue.{Box, box, bufferOf, usedOf, Frames, joins, Act, toControl, toData, dropNext, Boxes, boxes, acted, actedAll}
 use Rattle.queues.specs.Queue.{Lent, lent, lentOf, called, calledAll, Kept, Appended, Handed, Gone}
 
 -- ---- the used bytes are the frames that wait
@@ -25,7 +26,7 @@ front-found : (f v : List ℕ) → frameNumber f ≡ 0 → front (f ++ v) ≡ f
 front-found f v z = take-at f v (4 + lengthIn (f ++ v)) (frame-fits f z .1 ∙ ap (λ (k : ℕ). 4 + k) (sym (front-says f v z)))
 
 joined-whole : (q : List (List ℕ)) → Frames q → wholeFrom 0 (joined q) ≡ true
-unfolding joined wholeFrom
+unfolding wholeFrom
 joined-whole [] a = refl
 joined-whole (f ∷ q) (z, a) =
     let g = front-is (f ++ joined q) (ap frameNumber (front-found f (joined q) z) ∙ z) in
@@ -51,7 +52,6 @@ module _ (b : Box) (a : Frames (b .waiting)) where
   room-is = omega (arith, length-append (joined (b .waiting)) (b .behind))
 
   joined-last : (q : List (List ℕ)) (f : List ℕ) → joined (q ++ (f ∷ [])) ≡ joined q ++ f
-  unfolding joined
   joined-last [] f = append-nil f
   joined-last (g ∷ q) f = ap (λ (x : List ℕ). g ++ x) (joined-last q f) ∙ sym (append-assoc g (joined q) f)
 
@@ -82,11 +82,9 @@ module _ (b : Box) (a : Frames (b .waiting)) where
 
 -- an outbox is empty exactly where no frame waits
 none-used : (q : List (List ℕ)) → Frames q → q ≡ [] → length (joined q) ≡ 0
-unfolding joined
 none-used q a e = ap (λ (x : List (List ℕ)). length (joined x)) e
 
 some-used : (f : List ℕ) (q : List (List ℕ)) → frameNumber f ≡ 0 → length (joined (f ∷ q)) ≡ 0 → ⊥
-unfolding joined
 some-used f q z e = omega (arith, length-append f (joined q), frame-fits f z .1)
 
 -- the first message of an outbox is the oldest frame that waits
@@ -95,21 +93,18 @@ module _ (f : List ℕ) (q : List (List ℕ)) (r : List ℕ) (z : frameNumber f 
   some = box (f ∷ q) r
 
   first-is : front (take (usedOf some) (bufferOf some)) ≡ f
-  unfolding joined
   first-is = ap front (used-bytes some (z, a)) ∙ front-found f (joined q) z
 
   size-is : sizeOf (bufferOf some) (usedOf some) ≡ length f
-  unfolding joined
   size-is = ap (λ (x : List ℕ). 4 + lengthIn x) (used-bytes some (z, a)) ∙ ap (λ (k : ℕ). 4 + k) (front-says f (joined q) z) ∙ sym (frame-fits f z .1)
 
   moved-is : moved (bufferOf some) (sizeOf (bufferOf some) (usedOf some)) (usedOf some) ≡ bufferOf (box q (replicate (length f) 0 ++ r))
-  unfolding moved joined
+  unfolding moved
   moved-is =
       rw (size-is, used-bytes some (z, a), behind-bytes some (z, a))
       (ap (λ (x : List ℕ). x ++ (replicate (length f) 0 ++ r)) (drop-at f (joined q) (length f) refl))
 
   left-is : usedOf some - sizeOf (bufferOf some) (usedOf some) ≡ length (joined q)
-  unfolding joined
   left-is = omega (arith, size-is, length-append f (joined q))
 
 -- what the calls make of two queues
@@ -120,7 +115,7 @@ module _ (c d : Box) (a : Frames (c .waiting)) (b : Frames (d .waiting)) where
 
 -- Next hands back the oldest message, control's first.
 pub handed : (cq dq : List (List ℕ)) (cr dr : List ℕ) → Frames cq → Frames dq → Handed (box cq cr) (box dq dr)
-unfolding nextOf joined
+unfolding nextOf
 handed [] [] cr dr a b =
     let n = number-is (box [] cr) (box [] dr) a b in
     record { part = rw n; number = n }
@@ -135,7 +130,7 @@ handed (f ∷ q) dq cr dr (z, a) b =
 
 -- Drop takes that message away.
 pub gone : (cq dq : List (List ℕ)) (cr dr : List ℕ) → Frames cq → Frames dq → Gone (box cq cr) (box dq dr)
-unfolding dropOf joined
+unfolding dropOf
 gone [] [] cr dr a b = record { calls = rw (number-is (box [] cr) (box [] dr) a b); kept = record { control = a; stock = b } }
 gone [] (f ∷ q) cr dr a (z, b) =
     let n = number-is (box [] cr) (box (f ∷ q) dr) a (z, b) in
@@ -176,5 +171,4 @@ queues (x ∷ as′) b k =
 
 -- Two buffers of any bytes with nothing used are empty queues.
 pub empty-queues : (c d : List ℕ) → (lent c 0 d 0 ≡ lentOf (boxes (box [] c) (box [] d))) × Kept (boxes (box [] c) (box [] d))
-unfolding joined
 empty-queues c d = (refl, record { control = tt; stock = tt })

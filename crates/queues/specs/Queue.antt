@@ -5,7 +5,7 @@ use mathlib.Core.List.{List, [], _∷_, _++_}
 use mathlib.Core.Path.{_≡_}
 use lib.Dec.{eqb, leb}
 use lib.ListN.{length, drop, replicate}
-use Rattle.wire.specs.Each.{Each}
+use Rattle.wire.specs.Lists.{Each, joined}
 use Rattle.wire.specs.declared.Counted.{Counted}
 use Rattle.wire.specs.declared.Counted.the-variants as C
 use Rattle.outbox.specs.Outbox.{frameNumber, appendOf, appendAfter, nextNumber, nextOf, dropOf, controlAfter, dataAfter}
@@ -19,12 +19,7 @@ pub record Box : Type 0 where
 abbrev pub box : List (List ℕ) → List ℕ → Box
 box q r = record { waiting = q; behind = r }
 
--- frames end to end
-unfoldable pub joined : List (List ℕ) → List ℕ
-joined [] = []
-joined (f ∷ q) = f ++ joined q
-
--- the buffer of an outbox, and its used count
+-- the buffer of an outbox, frames end to end and the bytes behind them, and its used count
 abbrev pub bufferOf : Box → List ℕ
 bufferOf b = joined (b .waiting) ++ b .behind
 
@@ -152,7 +147,7 @@ pub record Appended (b : Box) (f : List ℕ) : Type 0 where
   pub used : usedAfter (appendOf (bufferOf b) (usedOf b) f) (usedOf b) ≡ usedOf (joins b f)
   pub frames : Frames (joins b f .waiting)
 
--- 41 where none waits
+-- 41 where none waits, else 0
 abbrev pub noneNumber : List (List ℕ) → List (List ℕ) → ℕ
 noneNumber [] [] = 41
 noneNumber [] (f ∷ q) = 0

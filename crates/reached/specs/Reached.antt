@@ -4,7 +4,7 @@ use mathlib.Core.Bool.{true, false}
 use mathlib.Core.List.{List, [], _∷_}
 use mathlib.Core.Path.{_≡_}
 use lib.ListN.{length, getD}
-use Rattle.wire.specs.Each.{Each}
+use Rattle.wire.specs.Lists.{Each}
 use Rattle.frame.specs.declared.Header.{Header}
 use Rattle.slots.specs.Slots.{free}
 use Rattle.fresh.specs.Fresh.{isHeld}

@@ -14,7 +14,7 @@ use Rattle.item.specs.Item.{fewest, told, leanHeader}
 use Rattle.item.proofs.Fewest.{counted}
 use Rattle.item.proofs.Lean.{told-length}
 use Rattle.rows.specs.declared.Row.{Row}
-use Rattle.wire.specs.Each.{Each}
+use Rattle.wire.specs.Lists.{Each}
 use Rattle.rows.specs.Row.{row, rowsOf, tableOf, partAt, contentSize, rowText, textOf, rowSize, sizeOf}
 use Rattle.rows.specs.Asked.{Fits}
 

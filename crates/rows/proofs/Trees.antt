@@ -12,7 +12,7 @@ use Rattle.item.specs.Item.{Item, Items, plain, list, none, more, count, Tree, 
 use Rattle.item.proofs.Codes.{plain-not-list, plain-small}
 use Rattle.item.proofs.Fewest.{lean-lengths}
 use Rattle.item.proofs.Lean.{told-length, told-content, count-meanings}
-use Rattle.wire.specs.Each.{Each}
+use Rattle.wire.specs.Lists.{Each}
 use Rattle.rows.specs.Row.{partAt, rowText, textOf, rowSize, sizeOf}
 use Rattle.rows.specs.Rows.{HasItem, HasAll, Has}
 use Rattle.rows.specs.Asked.{Fits}

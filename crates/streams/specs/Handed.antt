@@ -6,7 +6,7 @@ use mathlib.Core.Logic.{_⊎_, _↔_}
 use mathlib.Core.Path.{_≡_}
 use lib.Dec.{eqb}
 use lib.ListN.{length, take, drop}
-use Rattle.wire.specs.Each.{Each}
+use Rattle.wire.specs.Lists.{Each}
 use Rattle.wire.specs.Number.{AtMost}
 use Rattle.frame.specs.declared.Header.{Header as FrameHeader}
 use Rattle.frames.specs.State.{State, head, text, refused, readerOf, stateOf}

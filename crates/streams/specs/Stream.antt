@@ -3,7 +3,7 @@ use Prim.Native.Nat.{ℕ, _+_, _≤_, _<_}
 use mathlib.Core.List.{List, [], _∷_, _++_}
 use mathlib.Core.Path.{_≡_}
 use lib.ListN.{length, getD}
-use Rattle.wire.specs.Each.{Each}
+use Rattle.wire.specs.Lists.{Each}
 use Rattle.wire.specs.Longest.{longest}
 use Rattle.frame.specs.Header.{InRange}
 use Rattle.frame.specs.Frame.{lengthIn, lengthNumber, kindNumber, frameOf}

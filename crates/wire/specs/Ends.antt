@@ -36,7 +36,7 @@ ends =
 abbrev pub Stands : Width × ℕ × ℤ → Type 0
 Stands e = (signedOf (e .0) (e .1) ≡ e .2) × (unsignedOf (e .0) (e .2) ≡ Are (e .1))
 
--- a width, and a signed number that has no bits there
+-- a width, and the next signed number on either side, which has no bits there; of eight bytes an i64 holds no other
 abbrev pub outside : List (Width × ℤ)
 outside =
     (One, pos 128)

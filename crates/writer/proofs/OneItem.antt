@@ -15,7 +15,7 @@ use Rattle.item.specs.declared.Kind.the-variants as K
 use Rattle.item.proofs.Codes.{plain-not-list, list-code}
 use Rattle.levels.specs.Levels.{began, leaving}
 use Rattle.levels.proofs.Laws.{leaving-some}
-use Rattle.wire.specs.Each.{Each}
+use Rattle.wire.specs.Lists.{Each}
 use Rattle.rows.specs.Row.{rowsOf, partAt, inside}
 use Rattle.rows.specs.Rows.{HasItem, HasAll, Has}
 use Rattle.rows.specs.declared.Row.{Row}

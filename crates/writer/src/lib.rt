@@ -9,7 +9,7 @@ ghost use Rattle.wire.specs.Longest.{longest};
 ghost use Rattle.item.specs.Code.{L, BOOLEAN};
 ghost use Rattle.item.specs.Item.{truth, told, leanHeader};
 ghost use Rattle.levels.specs.Levels.{stack, levelsOf, Clean};
-ghost use Rattle.wire.specs.Each.{Each};
+ghost use Rattle.wire.specs.Lists.{Each};
 ghost use Rattle.rows.specs.Row.{row, rowsOf, rowText, textOf, sizeOf};
 ghost use Rattle.rows.specs.Rows.{rowsIn};
 ghost use Rattle.rows.specs.Asked.{Fits};

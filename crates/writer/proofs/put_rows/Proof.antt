@@ -7,7 +7,7 @@ use lib.ListN.{length, drop, length-append}
 use lib.Seq.{sets, length-sets}
 use Rattle.wire.proofs.Stores.{sets-append}
 use Rattle.rows.specs.declared.Row.{Row}
-use Rattle.wire.specs.Each.{Each}
+use Rattle.wire.specs.Lists.{Each}
 use Rattle.rows.specs.Row.{rowsOf, rowText, textOf}
 use Rattle.rows.proofs.Tables.{rows-more, rows-end}
 use Rattle.rows.specs.Asked.{Fits}
