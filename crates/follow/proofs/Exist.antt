@@ -101,7 +101,8 @@ members-of v st k f m deep (inl z) =
     (t, ([], t, refl, (none, sym z, refl), w), q)
 members-of v st k f m deep (inr h) = awaited-of (v ∷ st) k (subst (λ (x : ℕ). Fill k x) (omega arith) f) m h
 
-pub content-of : (st : List ℕ) (c l k : ℕ) → l ≤ k → Fill (k - l) (total st) → k ≤ longest → length st ≤ 16 → (t : List ℕ) × AfterContent st c l t × (length t ≡ k)
+pub content-of : (st : List ℕ) (c l k : ℕ) → l ≤ k → Fill (k - l) (total st) → k ≤ longest → length st ≤ 16
+    → (t : List ℕ) × AfterContent st c l t × (length t ≡ k)
 content-of st c l k h f m deep =
     let (w, r, q) = awaited-of st (k - l) f (omega arith) deep in (
       replicate l 0 ++ w,

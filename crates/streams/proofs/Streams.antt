@@ -190,13 +190,14 @@ module _ (c : List ℕ) (g : Handed) (p : List ℕ) (b : AtMost 0xFF p) where
       let low = length-range (lengthIn t) z in
       let m : lengthIn t ≡ 10 + (0 + (lengthIn t - 10)) = omega (arith, low .0) in
       let zero-more : lengthIn t - 10 ≡ 0 + (lengthIn t - 10) = omega arith in
+      let h = headerOf (drop 4 t) in
       rw (e, to) (
         text (lengthIn t - 10),
         refl,
         record {
-          header = headerOf (drop 4 t);
+          header = h;
           so-far = [];
-          open-is = ap (λ (y : Current). begun y (headerOf (drop 4 t)) (lengthIn t - 10)) (r .none-open) ∙ ap (opened (frame (headerOf (drop 4 t)) [])) zero-more;
+          open-is = ap (λ (y : Current). begun y h (lengthIn t - 10)) (r .none-open) ∙ ap (opened (frame h [])) zero-more;
           taken = r .taken;
           is = behind c (all (g .done)) bs u p (0 + length u) (r .is) took ∙ ap (λ (x : List ℕ). all (g .done) ++ x) (head-bytes t n at z);
           range = ten-range (drop 4 t) ten (at-most-drop 0xFF 4 t at);

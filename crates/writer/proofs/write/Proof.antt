@@ -16,9 +16,12 @@ use Rattle.writer.proofs.OneItem.{table-fits}
 use Rattle.writer.proofs.write.Statement.{statement}
 use Rattle.writer.proofs.write.Tie as tie
 
--- the call, from where the size is known, and the text that the rows stand for
+-- from where the size is known: where the table's number was asked, the call, and the text that the rows stand for
+abbrev asked : tie.After-text-size → tie.After-table-number
+asked c = c .before .before
+
 abbrev start : tie.After-text-size → tie.Start
-start c = c .before .before .before .before .before .before
+start c = asked c .before .before .before .before
 
 abbrev text : tie.After-text-size → List ℕ
 text c = textOf (start c .args .content .now) (rowsOf (start c .args .table .now))
@@ -28,8 +31,9 @@ measured : (c : tie.After-text-size)
     → (tableNumber (start c .args .content .now) (start c .args .table .now) ≡ 0) × (c .text-size .result ≡ min (1 + longest) (length (text c)))
 measured c =
     let a = start c .args in
-    let z : tableNumber (a .content .now) (a .table .now) ≡ 0 = sym (c .before .before .table-number .ensures) ∙ c .before .if1 .left in
-    (z, c .text-size .ensures ∙ ap (min (1 + longest)) (sym (text-length (a .content .now) (rowsOf (a .table .now)) (table-fits (a .content .now) (a .table .now) z))))
+    let z : tableNumber (a .content .now) (a .table .now) ≡ 0 = sym (asked c .table-number .ensures) ∙ c .before .if1 .left in
+    let size = text-length (a .content .now) (rowsOf (a .table .now)) (table-fits (a .content .now) (a .table .now) z) in
+    (z, c .text-size .ensures ∙ ap (min (1 + longest)) (sym size))
 
 table-number-requires : tie.Need-table-number-requires
 table-number-requires c κs = search needs
@@ -54,7 +58,8 @@ returns-3 c =
     let m = measured d in
     let o = start d .args .out .now in
     let e : length (text d) ≡ d .text-size .result = omega (arith, m .1, c .before .if2 .left) in
-    (rw (eq-eqb _ _ (m .0), le-leb (length (text d)) longest (omega (arith, e, c .before .if2 .left)), lt-leb (length (text d)) (length o) (omega (arith, e, c .if3 .taken))), refl)
+    let few = le-leb (length (text d)) longest (omega (arith, e, c .before .if2 .left)) in
+    (rw (eq-eqb _ _ (m .0), few, lt-leb (length (text d)) (length o) (omega (arith, e, c .if3 .taken))), refl)
 
 put-rows-requires : tie.Need-put-rows-requires
 put-rows-requires c κs =
@@ -74,8 +79,9 @@ returns-4 c =
     let m = measured d in
     let o = start d .args .out .now in
     let e : length (text d) ≡ d .text-size .result = omega (arith, m .1, f .before .if2 .left) in
-    let h : d .text-size .result ≤ length o = f .if3 .left in (
-      rw (eq-eqb _ _ (m .0), le-leb (length (text d)) longest (omega (arith, e, f .before .if2 .left)), le-leb (length (text d)) (length o) (omega (arith, e, h))) (ap Is (sym e)),
+    let h : d .text-size .result ≤ length o = f .if3 .left in
+    let few = le-leb (length (text d)) longest (omega (arith, e, f .before .if2 .left)) in (
+      rw (eq-eqb _ _ (m .0), few, le-leb (length (text d)) (length o) (omega (arith, e, h))) (ap Is (sym e)),
       c .before .before .put-rows .ensures ∙ sym (part-sets o (text d) 0 (d .text-size .result) e (omega (arith, h))),
     )
 
