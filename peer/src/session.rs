@@ -141,7 +141,8 @@ fn response(to: &Header, stype: u8, byte3: u8) -> Header {
 }
 
 fn reject(header: &Header, reason: u8, row: Row) -> Answer {
-    sends(Header { byte2: header.stype, ..response(header, 7, reason) }, &[], row)
+    let byte2 = if reason == 2 { header.ptype } else { header.stype };
+    sends(Header { byte2, ..response(header, 7, reason) }, &[], row)
 }
 
 /// The taken slots, each with its place.
@@ -638,6 +639,35 @@ mod tests {
             session.test_link();
             session.next = first;
             assert_eq!((session.broken(), session.fresh()), (vec![], first.wrapping_add(33)));
+        }
+    }
+
+    #[test]
+    fn byte_2_of_a_reject_is_the_ptype_for_reason_2_and_else_the_stype() {
+        // PType and SType, then byte 2 and the reason; the first is rejected only when not selected.
+        let rejects: [([u8; 2], [u8; 2]); 12] = [
+            ([0, 0], [0, 4]),
+            ([0, 2], [2, 3]),
+            ([0, 4], [4, 3]),
+            ([0, 6], [6, 3]),
+            ([0, 8], [8, 1]),
+            ([0, 10], [10, 1]),
+            ([0, 255], [255, 1]),
+            ([1, 0], [1, 2]),
+            ([1, 9], [1, 2]),
+            ([8, 1], [8, 2]),
+            ([255, 0], [255, 2]),
+            ([255, 8], [255, 2]),
+        ];
+        for (phase, rejects) in [(Phase::NotSelected, &rejects[..]), (Phase::Selected, &rejects[1..])] {
+            for &([ptype, stype], [byte2, reason]) in rejects {
+                let header = Header { session: 0x2131, byte2: 0x41, byte3: 0x51, ptype, stype, system: 0x6171_8191 };
+                let sent = vec![0, 0, 0, 10, 0x21, 0x31, byte2, reason, 0, 7, 0x61, 0x71, 0x81, 0x91];
+                let mut session = of(&[Change::Phase(phase)]);
+                let before = session.line();
+                let answer = session.step(&Event::Received { header, text: vec![] });
+                assert_eq!((answer.number, answer.sent, session.line()), (0, Some(sent), before));
+            }
         }
     }
 }

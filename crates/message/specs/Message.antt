@@ -36,6 +36,6 @@ control session system byte2 byte3 stype =
 abbrev pub response : Header → ℕ → ℕ → Send
 response h stype status = control (h .session) (h .system) 0 status stype
 
--- byte 2 of a Reject is the SType of the rejected message, byte 3 the reason
+-- for reason 2 (PType not supported) byte 2 of the Reject carries the PType of the rejected message, and only otherwise its SType; the reason is byte 3
 abbrev pub reject : Header → ℕ → Send
-reject h reason = control (h .session) (h .system) (h .stype) reason 7
+reject h reason = control (h .session) (h .system) (cond (eqb reason 2) (h .ptype) (h .stype)) reason 7

@@ -83,11 +83,12 @@ pub fn response_of(h: Header, stype: u8, status: u8) -> Send
     control_of(h.session, h.system, 0, status, stype)
 }
 
-// The Reject of a message, with its reason.
+// The Reject of a message, with its reason; reason 2 is a PType that is not supported.
 pub fn reject_of(h: Header, reason: u8) -> Send
     ensures { λ r. ⌜ r ≡ reject h reason ⌝ }
 {
-    control_of(h.session, h.system, h.stype, reason, 7)
+    let byte2 = if reason == 2 { h.ptype } else { h.stype };
+    control_of(h.session, h.system, byte2, reason, 7)
 }
 
 // Writes the lean B item of a header's ten bytes.

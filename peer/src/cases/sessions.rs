@@ -26,6 +26,7 @@ pub fn make() -> Book {
     sessions.not_connected();
     sessions.control_rows();
     sessions.rejects_received();
+    sessions.rejects_sent();
     sessions.header_orders();
     sessions.flags();
     sessions.primary_rows();
@@ -68,6 +69,16 @@ fn send(w: bool, stream: u8, function: u8) -> Event {
 
 fn reply(system: u32) -> Event {
     Event::Reply { system, text: LIST_OF_NONE.to_vec() }
+}
+
+/// Messages of this PType, of each SType, with this text. Of their other bytes none is a PType, an SType or a reason,
+/// and no two are equal: the high digit tells the place, the low digit the message.
+fn marked(ptype: u8, stypes: &[u8], text: &[u8]) -> Vec<Event> {
+    let message = |(mark, &stype): (u8, &u8)| {
+        let (session, system) = (0x2030 + 0x0101 * u16::from(mark), 0x6070_8090 + 0x0101_0101 * u32::from(mark));
+        received(Header { session, byte2: 0x40 + mark, byte3: 0x50 + mark, ptype, stype, system }, text)
+    };
+    (0..).zip(stypes).map(message).collect()
 }
 
 /// A record's letter, its fields of fixed size, and its bytes. Fields that a wish does not use hold what must be passed over.
@@ -224,6 +235,43 @@ impl Sessions {
         self.events([control(7, 2), control(7, 3), control(7, 3), Event::Linktest]);
         self.event(control(3, 5));
         self.events([control(7, 4), Event::Linktest, Event::Disconnect, control(7, 5)]);
+    }
+
+    fn rejects_sent(&mut self) {
+        self.name("Reject of a PType that is not 0: byte 2 is the PType, not selected");
+        self.connected();
+        self.other_ptypes();
+        self.name("Reject of a PType that is not 0: byte 2 is the PType, selected");
+        self.selected();
+        self.other_ptypes();
+        self.name("Reject of any other reason: byte 2 is the SType, not selected");
+        self.connected();
+        self.events(marked(0, &[8, 10, 255, 2, 4, 6, 0], &[]));
+        self.events(marked(0, &[0], LIST_OF_NONE));
+        self.name("Reject of any other reason: byte 2 is the SType, selected");
+        self.selected();
+        self.events(marked(0, &[8, 10, 255, 2, 4, 6], &[]));
+        let reject = |ptype: u8, system: u32| received(Header { ptype, byte2: 5, byte3: 3, ..header(7, system) }, &[]);
+        self.name("SType 7 with a PType that is not 0 is not rejected: 34, 35, not selected");
+        self.connected();
+        for (ptype, tested) in [(1, 1), (255, 2)] {
+            self.event(Event::Linktest);
+            self.events([9, tested, tested].map(|system| reject(ptype, system)));
+        }
+        self.name("SType 7 with a PType that is not 0 is not rejected: 34, 35, selected");
+        self.selected();
+        for (ptype, own, tested) in [(1, 1, 2), (255, 3, 4)] {
+            self.events([send(true, 1, 1), Event::Linktest]);
+            self.events([9, own, own, tested, tested].map(|system| reject(ptype, system)));
+        }
+    }
+
+    fn other_ptypes(&mut self) {
+        for ptype in [1, 255] {
+            self.events(marked(ptype, &[0, 1, 5, 8, 9], &[]));
+            self.events(marked(ptype, &[0], LIST_OF_NONE));
+            self.events(marked(ptype, &[0], NOT_GOOD));
+        }
     }
 
     fn header_orders(&mut self) {
