@@ -29,7 +29,8 @@ rows! {
     SType "SType not known"
     SelectNew "Select.req, not selected"
     SelectAgain "Select.req, selected"
-    Deselect "Deselect.req, selected"
+    Deselect "Deselect.req, selected, no received slot open"
+    DeselectBusy "Deselect.req, selected, a received slot open"
     DeselectAgain "Deselect.req, not selected"
     LinktestReq "Linktest.req"
     Response "Select.rsp or Deselect.rsp"
@@ -316,6 +317,10 @@ impl Session {
         number
     }
 
+    fn busy(&self) -> bool {
+        self.received.iter().any(|slot| slot.taken)
+    }
+
     fn deselect(&mut self) {
         self.phase = Phase::NotSelected;
         self.received = [FREE; 32];
@@ -386,6 +391,7 @@ impl Session {
                 self.phase = Phase::Selected;
                 sends(response(header, 2, 0), &[], Row::SelectNew)
             }
+            3 if selected && self.busy() => sends(response(header, 4, 2), &[], Row::DeselectBusy),
             3 if selected => {
                 self.deselect();
                 sends(response(header, 4, 0), &[], Row::Deselect)
@@ -536,8 +542,19 @@ mod tests {
         session
     }
 
-    fn busy() -> Session {
+    fn one_each_open() -> Session {
         of(&[own_slot(0, slot(1, 1, 1)), linktest(true, 2), received_slot(0, slot(40, 1, 1))])
+    }
+
+    /// A message whose other bytes are no PType, no SType, no status and no reason.
+    fn marked(ptype: u8, stype: u8) -> Event {
+        let header = Header { session: 0x2131, byte2: 0x41, byte3: 0x51, ptype, stype, system: 0x6171_8191 };
+        Event::Received { header, text: vec![] }
+    }
+
+    /// The frame of a response to it, or of a Reject.
+    fn answering(byte2: u8, byte3: u8, stype: u8) -> Option<Vec<u8>> {
+        Some(vec![0, 0, 0, 10, 0x21, 0x31, byte2, byte3, 0, stype, 0x61, 0x71, 0x81, 0x91])
     }
 
     fn breaks(mut session: Session, change: Change, lines: &[&str]) {
@@ -577,11 +594,11 @@ mod tests {
             (8, Change::Phase(Phase::NotSelected)),
         ];
         for (line, change) in changes {
-            breaks(busy(), change, &[LINES[line].0]);
+            breaks(one_each_open(), change, &[LINES[line].0]);
         }
         breaks(Session::new(0), linktest(true, 1), &[LINES[7].0]);
         breaks(Session::new(0), own_slot(0, slot(1, 1, 1)), &[LINES[8].0]);
-        breaks(busy(), Change::Phase(Phase::NotConnected), &[LINES[7].0, LINES[8].0]);
+        breaks(one_each_open(), Change::Phase(Phase::NotConnected), &[LINES[7].0, LINES[8].0]);
     }
 
     #[test]
@@ -600,7 +617,7 @@ mod tests {
             Change::Next(u32::MAX),
         ];
         for change in changes {
-            let mut session = busy();
+            let mut session = one_each_open();
             session.change(change);
             assert_eq!(session.broken(), NONE);
         }
@@ -661,12 +678,83 @@ mod tests {
         ];
         for (phase, rejects) in [(Phase::NotSelected, &rejects[..]), (Phase::Selected, &rejects[1..])] {
             for &([ptype, stype], [byte2, reason]) in rejects {
-                let header = Header { session: 0x2131, byte2: 0x41, byte3: 0x51, ptype, stype, system: 0x6171_8191 };
-                let sent = vec![0, 0, 0, 10, 0x21, 0x31, byte2, reason, 0, 7, 0x61, 0x71, 0x81, 0x91];
                 let mut session = of(&[Change::Phase(phase)]);
                 let before = session.line();
-                let answer = session.step(&Event::Received { header, text: vec![] });
-                assert_eq!((answer.number, answer.sent, session.line()), (0, Some(sent), before));
+                let answer = session.step(&marked(ptype, stype));
+                assert_eq!((answer.number, answer.sent, session.line()), (0, answering(byte2, reason, 7), before));
+            }
+        }
+    }
+
+    const TESTED: Linktest = Linktest { running: true, system: 2 };
+    const DESELECTED: Option<&str> = Some("not selected\t7\tlinktest\t2\tflags\t9");
+
+    /// The number, the frame that is sent, and the state line after it; none where it is as before.
+    type Expected = (u32, Option<Vec<u8>>, Option<&'static str>);
+
+    /// Tries an event in each phase with no slot open, a received one, an own one, both. A slot open when not selected is 14.
+    fn each_state_answers(event: &Event, not_selected: &Expected, selected: [&Expected; 4]) {
+        let (received, own) = (received_slot(31, slot(40, 1, 1)), own_slot(0, slot(1, 3, 5)));
+        let open: [(&[Change], &str); 4] = [
+            (&[], ""),
+            (&[received], "\treceived\t31\t40\t1\t1"),
+            (&[own], "\town\t0\t1\t3\t5"),
+            (&[received, own], "\treceived\t31\t40\t1\t1\town\t0\t1\t3\t5"),
+        ];
+        let (not_connected, broken) = ((20, None, None), (14, None, None));
+        let phases = [
+            (Phase::NotConnected, CLOSED, "not connected\t7", [&not_connected, &broken, &broken, &broken]),
+            (Phase::NotSelected, TESTED, "not selected\t7\tlinktest\t2", [not_selected, &broken, &broken, &broken]),
+            (Phase::Selected, TESTED, "selected\t7\tlinktest\t2", selected),
+        ];
+        for (phase, linktest, link, answers) in phases {
+            for ((slots, says), (number, sent, after)) in open.iter().zip(answers) {
+                let link_parts = [Change::Phase(phase), Change::Linktest(linktest), Change::Next(7), flag(9)];
+                let mut session = of(&[&link_parts[..], slots].concat());
+                let before = format!("{link}{says}\tflags\t9");
+                assert_eq!(session.line(), before);
+                let answer = session.step(event);
+                let after = after.map_or(before, str::to_string);
+                assert_eq!((answer.number, &answer.sent, session.line()), (*number, sent, after));
+            }
+        }
+    }
+
+    #[test]
+    fn deselect_req_is_busy_where_a_received_slot_is_open() {
+        let (done, again, busy) =
+            ((0, answering(0, 0, 4), DESELECTED), (0, answering(0, 1, 4), None), (0, answering(0, 2, 4), None));
+        each_state_answers(&marked(0, 3), &again, [&done, &busy, &done, &busy]);
+    }
+
+    #[test]
+    fn a_ptype_that_is_not_0_is_rejected_before_busy() {
+        let rejected = (0, answering(1, 2, 7), None);
+        each_state_answers(&marked(1, 3), &rejected, [&rejected; 4]);
+    }
+
+    #[test]
+    fn separate_is_immediate_where_a_received_slot_is_open() {
+        each_state_answers(&marked(0, 9), &(0, None, None), [&(0, None, DESELECTED); 4]);
+        let sent = Some(vec![0, 0, 0, 10, 0xFF, 0xFF, 0, 0, 0, 9, 0, 0, 0, 7]);
+        let separated = (0, sent, Some("not selected\t8\tlinktest\t2\tflags\t9"));
+        each_state_answers(&Event::Separate, &(22, None, None), [&separated; 4]);
+    }
+
+    #[test]
+    fn busy_ends_where_the_last_received_slot_is_closed() {
+        let (reply, abort) = (|system: u32| Event::Reply { system, text: vec![] }, |system: u32| Event::Abort { system });
+        let closings = [[reply(40), reply(41)], [reply(41), abort(40)], [abort(40), reply(41)], [abort(41), abort(40)]];
+        let (done, busy) = ((0, Row::Deselect), (2, Row::DeselectBusy));
+        for place in 1..32 {
+            for [first, last] in &closings {
+                let mut session = of(&[received_slot(0, slot(40, 1, 1)), received_slot(place, slot(41, 1, 1))]);
+                for (event, (status, row)) in [(&Event::Linktest, busy), (first, busy), (last, done)] {
+                    assert_eq!(session.step(event).number, 0);
+                    let answer = session.step(&marked(0, 3));
+                    assert_eq!(answer.sent, answering(0, status, 4));
+                    assert!(answer.row == row);
+                }
             }
         }
     }

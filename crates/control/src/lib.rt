@@ -40,6 +40,11 @@ pub fn deselect(s: Session, h: Header) -> Stepped
     ensures { λ r. ⌜ r ≡ deselectOf s h ⌝ }
 {
     if state::is_selected(s) {
+        let d = s.device;
+        let received = d.received;
+        if slots::find(received, Query::Taken) < 32 {
+            return table::answer_of(0, s, message::response_of(h, 4, 2));
+        }
         return table::answer_of(0, state::deselect(s), message::response_of(h, 4, 0));
     }
     table::answer_of(0, s, message::response_of(h, 4, 1))

@@ -1,4 +1,4 @@
--- Disconnect, T6, T7 and T8 leave no slot and no linktest open, Deselect.req and separate no slot: their rows empty the tables, or refuse, or are those of a state with no slot open.
+-- Disconnect, T6, T7 and T8 leave no slot and no linktest open; Deselect.req and separate, where they leave selected, no slot; and separate leaves it at once.
 use Prim.Native.Nat.{ℕ}
 use mathlib.Core.Bool.{Bool, true, false}
 use mathlib.Core.List.{List}
@@ -18,8 +18,9 @@ use Rattle.table.specs.Table.{moved, deselectOf, separatedOf, kindOf, cameOf, d
 use Rattle.table.specs.declared.Stepped.{Stepped}
 use Rattle.table.specs.declared.Event.{Event}
 use Rattle.table.proofs.Cases.{by-pick}
-use Rattle.protocol.specs.Protocol.{NoneOpen, Gone, Disconnects, disconnect, t6, t7, t8, Deselects, deselect-req, separate-req, separate}
-use Rattle.protocol.proofs.Open.{none-open}
+use Rattle.protocol.specs.Protocol.{NoneOpen, Gone, Disconnects, disconnect, t6, t7, t8}
+use Rattle.protocol.specs.Protocol.{AtOnce, Separates, separate-req, separate, Deselects, deselect-req, separates}
+use Rattle.protocol.proofs.Open.{none-open, let-through}
 
 none-taken : isThere Taken noSlots ≡ false
 none-taken = ap (λ (i : ℕ). ltb i 32) (no-slots-none Taken free-not-taken)
@@ -27,8 +28,12 @@ none-taken = ap (λ (i : ℕ). ltb i 32) (no-slots-none Taken free-not-taken)
 gone-all : (s : Session) → Gone s (gone s)
 gone-all s = record { slots = record { received = none-taken; own = none-taken }; linktest = refl; next = refl }
 
-deselected-none : (s : Session) → NoneOpen (deselected s)
-deselected-none s = record { received = none-taken; own = none-taken }
+deselected-at-once : (s : Session) (m : Send) → AtOnce (answer 0 (deselected s) m)
+deselected-at-once s m = record { number = refl; phase = refl; slots = record { received = none-taken; own = none-taken } }
+
+-- not selected, no slot is open
+abbrev Emptied : Session → Type 0
+Emptied s = selected s ≡ false → NoneOpen s
 
 -- ---- where a step answers 0, its state is as said
 
@@ -50,6 +55,9 @@ module _ {P : Session → Type 0} where
   unfolding stepOf
   step-left s e text go = by-pick (Left P) (allows s) (eventOf s e text) (told 14 s) go (λ _. refuses 14 s refl)
 
+emptied : (s : Session) (m : Send) → Left Emptied (answer 0 (deselected s) m)
+emptied s m = leaves _ m (λ _. deselected-at-once s m .slots)
+
 module _ (s : Session) where
   disconnects-left : (e : Event) (text : List ℕ) → Disconnects e → Left (Gone s) (eventOf s e text)
   unfolding eventOf wishOf timerOf disconnectOf t6Of t7Of t8Of
@@ -59,20 +67,27 @@ module _ (s : Session) where
   disconnects-left e text t8 = either _ _ _ (leaves _ _ (gone-all s)) (refuses 27 s refl)
 
   module _ (ok : allows s ≡ true) where
-    -- selected, the slots are emptied; not selected, they are empty
-    by-phase : (m m′ : Send) → Left NoneOpen (pick (selected s) (answer 0 (deselected s) m) (answer 0 s m′))
-    by-phase m m′ = by-pick (Left NoneOpen) (selected s) _ _ (λ _. leaves _ m (deselected-none s)) (λ out. leaves s m′ (none-open s ok out))
+    -- where nothing changes, the list leaves no slot open unless the phase is selected
+    stays : (m : Send) → Left Emptied (answer 0 s m)
+    stays m = leaves s m (none-open s ok)
 
-    deselects-left : (e : Event) (text : List ℕ) → Deselects e → Left NoneOpen (eventOf s e text)
+    deselects-left : (e : Event) (text : List ℕ) → Deselects e → Left Emptied (eventOf s e text)
     unfolding eventOf cameOf kindOf wishOf deselectOf separatedOf separateOf
-    deselects-left e text (deselect-req h) = either _ _ _ (by-phase _ _) (refuses 20 s refl)
-    deselects-left e text (separate-req h) = either _ _ _ (by-phase _ _) (refuses 20 s refl)
-    deselects-left e text separate = either _ _ _ (either _ _ _ (leaves _ _ (deselected-none (moved s))) (refuses 22 s refl)) (refuses 20 s refl)
+    deselects-left e text (deselect-req h) = either _ _ _ (either _ _ _ (either _ _ _ (stays _) (emptied s _)) (stays _)) (refuses 20 s refl)
+    deselects-left e text (separates (separate-req h)) = either _ _ _ (either _ _ _ (emptied s _) (stays _)) (refuses 20 s refl)
+    deselects-left e text (separates separate) = either _ _ _ (either _ _ _ (emptied (moved s) _) (refuses 22 s refl)) (refuses 20 s refl)
 
   -- DISCONNECT, T6, T7 AND T8 LEAVE NO SLOT AND NO LINKTEST OPEN, and the next own number as it was.
   pub disconnected : (e : Event) (text : List ℕ) → Disconnects e → stepOf s e text .number ≡ 0 → Gone s (stepOf s e text .session)
   disconnected e text d = step-left s e text (λ _. disconnects-left e text d) .left
 
-  -- DESELECT.REQ AND SEPARATE, RECEIVED OR WISHED, LEAVE NO SLOT OPEN, whatever the phase.
-  pub separated : (e : Event) (text : List ℕ) → Deselects e → stepOf s e text .number ≡ 0 → NoneOpen (stepOf s e text .session)
+  -- DESELECT.REQ AND SEPARATE LEAVE NO SLOT OPEN where the phase is not selected afterwards.
+  pub separated : (e : Event) (text : List ℕ) → Deselects e → stepOf s e text .number ≡ 0
+      → selected (stepOf s e text .session) ≡ false → NoneOpen (stepOf s e text .session)
   separated e text d = step-left s e text (λ ok. deselects-left ok e text d) .left
+
+  -- SEPARATE IS IMMEDIATE: in selected, received or wished, whatever is open, it leaves selected at once.
+  pub immediate : (e : Event) (text : List ℕ) → Separates e → allows s ≡ true → selected s ≡ true → AtOnce (stepOf s e text)
+  unfolding stepOf eventOf cameOf kindOf wishOf separatedOf separateOf
+  immediate e text (separate-req h) ok phase = rw (let-through s ok phase) (deselected-at-once s _)
+  immediate e text separate ok phase = rw (let-through s ok phase) (deselected-at-once (moved s) _)

@@ -1,4 +1,4 @@
--- Where the phase is not selected the list behind 14 leaves no slot open.
+-- Where the phase is not selected the list behind 14 leaves no slot open; where it is, neither 14 nor 20 is answered, but the row.
 use Prim.Native.Nat.{ℕ, _≤_, _<_}
 use mathlib.Core.Bool.{Bool, true, false, false≢true, cond}
 use mathlib.Core.List.{List}
@@ -11,10 +11,15 @@ use Rattle.slots.specs.Slots.{free, passes, foundAt, isThere}
 use Rattle.slots.specs.declared.Slot.{Slot}
 use Rattle.slots.specs.declared.Query.the-variants.{Taken, Named}
 use Rattle.slots.proofs.Found.{found-most, found-least, found-passes, named-taken}
-use Rattle.state.specs.State.{selected}
-use Rattle.listed.specs.Listed.{testClosed, allowsPhase, allows}
+use Rattle.state.specs.State.{connected, selected}
 use Rattle.state.specs.declared.Session.{Session}
+use Rattle.state.proofs.Phases.{selected-connected}
+use Rattle.listed.specs.Listed.{testClosed, allowsPhase, allows}
 use Rattle.listed.proofs.Listed.{listed}
+use Rattle.table.specs.Pick.{pick}
+use Rattle.table.specs.Answer.{told}
+use Rattle.table.specs.declared.Stepped.{Stepped}
+use Rattle.table.proofs.Cases.{pick-true}
 use Rattle.protocol.specs.Protocol.{NoneOpen}
 
 pub none-open : (s : Session) → allows s ≡ true → selected s ≡ false → NoneOpen s
@@ -48,3 +53,9 @@ own-selected s ok n e = go (selected s) refl
     go : (b : Bool) → selected s ≡ b → b ≡ true
     go true w = refl
     go false w = absurd (false≢true (sym (none-open s ok w .own) ∙ taken))
+
+-- in selected, in a state that the list allows, neither 14 nor 20 is answered, but what the row has for selected
+pub let-through : (s : Session) → allows s ≡ true → selected s ≡ true → (r other : Stepped)
+    → pick (allows s) (pick (connected s) (pick (selected s) r other) (told 20 s)) (told 14 s) ≡ r
+let-through s ok phase r other =
+    pick-true (allows s) _ _ ok ∙ pick-true (connected s) _ _ (selected-connected s phase) ∙ pick-true (selected s) _ _ phase

@@ -1,4 +1,4 @@
--- A reply that is asked for goes out only for a received primary that is still open, and closes it: no two have the same system bytes, so none is left to reply to.
+-- A reply that is asked for goes out only for a received primary that is still open, and closes it: no two share system bytes, so none is left to reply to.
 use Prim.Native.Nat.{ℕ, _+_, _≤_, _<_}
 use mathlib.Core.Bool.{true, false}
 use mathlib.Core.List.{List}
@@ -24,7 +24,6 @@ use Rattle.state.specs.State.{connected, selected, receivedFreed}
 use Rattle.listed.specs.Listed.{allowsDevice, allowsTest, allowsPhase, allows}
 use Rattle.state.specs.declared.Session.{Session}
 use Rattle.listed.proofs.Listed.{listed, relisted}
-use Rattle.state.proofs.Phases.{selected-connected}
 use Rattle.table.specs.Pick.{pick}
 use Rattle.table.specs.Answer.{answer, told, sent}
 use Rattle.table.specs.Table.{receivedAt, whenSelected, replyOf, repliedOf, wishOf, eventOf, stepOf}
@@ -33,23 +32,21 @@ use Rattle.table.specs.declared.Wish.the-variants.{Reply, Abort}
 use Rattle.table.specs.declared.Event.the-variants.{Wish as onWish}
 use Rattle.table.proofs.Cases.{pick-true, pick-false, by-pick}
 use Rattle.protocol.specs.Protocol.{primaryAt, Replied}
+use Rattle.protocol.proofs.Open.{let-through}
 
 -- ---- where no received slot has these system bytes, both are 25
 
 module _ (t : Session) (n : ℕ) (ok : allows t ≡ true) (phase : selected t ≡ true) (none : isThere (Named n) (t .device .received) ≡ false) where
-  let-through : (r : Stepped) → pick (allows t) (whenSelected t r) (told 14 t) ≡ r
-  let-through r = pick-true (allows t) _ _ ok ∙ pick-true (connected t) _ _ (selected-connected t phase) ∙ pick-true (selected t) _ _ phase
-
   not-open : (r : Stepped) → pick (isThere (Named n) (t .device .received)) r (told 25 t) ≡ told 25 t
   not-open r = pick-false (isThere (Named n) (t .device .received)) r (told 25 t) none
 
   no-reply : (later : List ℕ) → judgedOf later ≡ 0 → stepOf t (onWish (Reply n)) later ≡ told 25 t
   unfolding stepOf eventOf wishOf replyOf repliedOf
-  no-reply later good = let-through _ ∙ pick-true (eqb (judgedOf later) 0) _ _ (eq-eqb (judgedOf later) 0 good) ∙ not-open _
+  no-reply later good = let-through t ok phase _ _ ∙ pick-true (eqb (judgedOf later) 0) _ _ (eq-eqb (judgedOf later) 0 good) ∙ not-open _
 
   no-abort : (later : List ℕ) → stepOf t (onWish (Abort n)) later ≡ told 25 t
   unfolding stepOf eventOf wishOf repliedOf
-  no-abort later = let-through _ ∙ not-open _
+  no-abort later = let-through t ok phase _ _ ∙ not-open _
 
 -- ---- what goes out closes its slot
 

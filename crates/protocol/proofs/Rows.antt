@@ -10,13 +10,16 @@ use Rattle.slots.specs.Slots.{isThere}
 use Rattle.slots.specs.declared.Query.the-variants.{Answered}
 use Rattle.text.specs.Text.{judgedOf}
 use Rattle.message.specs.declared.Received.{Received}
-use Rattle.message.specs.declared.Received.the-variants.{Reject, OtherPType, OtherSType, SelectReq, SelectRsp, DeselectReq, DeselectRsp, LinktestReq, LinktestRsp, SeparateReq, Data}
+use Rattle.message.specs.declared.Received.the-variants.{Reject, OtherPType, OtherSType, SelectReq, SelectRsp, DeselectReq, DeselectRsp, LinktestReq}
+use Rattle.message.specs.declared.Received.the-variants.{LinktestRsp, SeparateReq, Data}
 use Rattle.state.specs.State.{selected, ownFreed}
 use Rattle.listed.specs.Listed.{allows}
 use Rattle.state.specs.declared.Session.{Session}
 use Rattle.table.specs.Pick.{pick}
 use Rattle.table.specs.Answer.{told}
-use Rattle.table.specs.Table.{rejectedOf, selectOf, deselectOf, linktestedOf, separatedOf, s9Of, complainOf, secondaryOf, openedOf, primaryOf, dataOf, dataWhen, kindOf, cameOf, connectOf, disconnectOf, flagOf, whenSelected, whenGood, sendOf, primaryWishOf, replyOf, repliedOf, linktestOf, separateOf, wishOf, t3Of, t6Of, t7Of, t8Of, timerOf, eventOf, stepOf}
+use Rattle.table.specs.Table.{rejectedOf, selectOf, deselectOf, linktestedOf, separatedOf, s9Of, complainOf, secondaryOf, openedOf, primaryOf, dataOf}
+use Rattle.table.specs.Table.{dataWhen, kindOf, cameOf, connectOf, disconnectOf, flagOf, whenSelected, whenGood, sendOf, primaryWishOf, replyOf}
+use Rattle.table.specs.Table.{repliedOf, linktestOf, separateOf, wishOf, t3Of, t6Of, t7Of, t8Of, timerOf, eventOf, stepOf}
 use Rattle.table.specs.declared.Stepped.{Stepped}
 use Rattle.table.specs.declared.Timer.{Timer}
 use Rattle.table.specs.declared.Timer.the-variants.{T3, T6, T7, T8}
@@ -119,7 +122,7 @@ module _ (s : Session) (text : List ℕ) where
     kind-does (OtherSType h) = links refl refl refl
     kind-does (SelectReq h) = either _ _ _ (links refl refl refl) (links refl refl refl)
     kind-does (SelectRsp h) = links refl refl refl
-    kind-does (DeselectReq h) = either _ _ _ (links refl refl refl) (links refl refl refl)
+    kind-does (DeselectReq h) = either _ _ _ (either _ _ _ (links refl refl refl) (links refl refl refl)) (links refl refl refl)
     kind-does (DeselectRsp h) = links refl refl refl
     kind-does (LinktestReq h) = links refl refl refl
     kind-does (LinktestRsp h) = either _ _ _ (links refl refl refl) (links refl refl refl)

@@ -12,14 +12,16 @@ use Rattle.slots.specs.Slots.{free, foundAt, isThere}
 use Rattle.slots.specs.declared.Slot.{Slot}
 use Rattle.slots.specs.declared.Query.the-variants.{Taken, Named, Answered}
 use Rattle.text.specs.Text.{judgedOf}
+use Rattle.message.specs.Message.{response}
 use Rattle.message.specs.declared.Received.the-variants.{DeselectReq, SeparateReq}
 use Rattle.message.specs.declared.Text.{Text}
 use Rattle.message.specs.declared.Send.{Send}
 use Rattle.message.specs.declared.Send.the-variants.{Nothing, Message}
 use Rattle.state.specs.State.{receivedFreed, ownFreed}
+use Rattle.state.specs.declared.Phase.the-variants.{NotSelected}
 use Rattle.state.specs.declared.Session.{Session}
 use Rattle.table.specs.Answer.{told}
-use Rattle.table.specs.Table.{receivedAt, stepOf}
+use Rattle.table.specs.Table.{receivedAt, receivedOpen, stepOf}
 use Rattle.table.specs.declared.Stepped.{Stepped}
 use Rattle.table.specs.declared.Timer.the-variants.{T6, T7, T8}
 use Rattle.table.specs.declared.Wish.the-variants.{Disconnect, Reply, Abort, Separate}
@@ -53,9 +55,13 @@ pub record Unchanged (s : Session) (r : Stepped) : Type 0 where
 
 -- ---- a reply that goes out
 
+-- the received slot at a place
+abbrev pub receivedSlot : Session → ℕ → Slot
+receivedSlot s i = getD (s .device .received) i free
+
 -- the received primary with these system bytes
 abbrev pub primaryAt : Session → ℕ → Slot
-primaryAt s n = getD (s .device .received) (receivedAt s n) free
+primaryAt s n = receivedSlot s (receivedAt s n)
 
 -- the reply answers the received primary with system bytes n, with function f, and closes it; after it, a reply is 25, and an abort
 pub record Replied (s : Session) (n f : ℕ) (text : Text) (r : Stepped) : Type 0 where
@@ -107,7 +113,7 @@ NotSwapped s h r =
 -- ---- what is left open
 
 pub record NoneOpen (s : Session) : Type 0 where
-  pub received : isThere Taken (s .device .received) ≡ false
+  pub received : receivedOpen s ≡ false
   pub own : isThere Taken (s .device .own) ≡ false
 
 -- no slot and no linktest is open, and the next own number is as it was
@@ -123,8 +129,30 @@ pub data Disconnects : Event → Type 0 where
   t7 : Disconnects (onTimer T7)
   t8 : Disconnects (onTimer T8)
 
--- Deselect.req, and separate, received or wished
+-- selected is left at once: the number is 0, the phase not selected, and no slot open
+pub record AtOnce (r : Stepped) : Type 0 where
+  pub number : r .number ≡ 0
+  pub phase : r .session .link .phase ≡ NotSelected
+  pub slots : NoneOpen (r .session)
+
+-- separate, received or wished
+pub data Separates : Event → Type 0 where
+  separate-req : (h : Header) → Separates (onReceived (SeparateReq h))
+  separate : Separates (onWish Separate)
+
+-- Deselect.req, and separate
 pub data Deselects : Event → Type 0 where
   deselect-req : (h : Header) → Deselects (onReceived (DeselectReq h))
-  separate-req : (h : Header) → Deselects (onReceived (SeparateReq h))
-  separate : Deselects (onWish Separate)
+  separates : {e : Event} → Separates e → Deselects e
+
+-- ---- Deselect.req while work is open
+
+-- status 2 (busy), and nothing changes
+pub record Busy (s : Session) (h : Header) (r : Stepped) : Type 0 where
+  pub number : r .number ≡ 0
+  pub status : r .send ≡ response h 4 2
+  pub unchanged : r .session ≡ s
+
+-- each received slot is as it was, or none was taken
+abbrev pub LosesNone : Session → Session → Type 0
+LosesNone s t = ((i : ℕ) → receivedSlot t i ≡ receivedSlot s i) ⊎ ((i : ℕ) → i < 32 → receivedSlot s i .taken ≡ false)

@@ -12,11 +12,14 @@ use Rattle.frame.specs.declared.Header.{Header}
 use Rattle.slots.specs.Slots.{foundAt, isThere, isPrimary}
 use Rattle.slots.specs.declared.Query.the-variants.{Named}
 use Rattle.message.specs.declared.Received.{Received}
-use Rattle.message.specs.declared.Received.the-variants.{Reject, OtherPType, OtherSType, SelectReq, SelectRsp, DeselectReq, DeselectRsp, LinktestReq, LinktestRsp, SeparateReq, Data}
+use Rattle.message.specs.declared.Received.the-variants.{Reject, OtherPType, OtherSType, SelectReq, SelectRsp, DeselectReq, DeselectRsp, LinktestReq}
+use Rattle.message.specs.declared.Received.the-variants.{LinktestRsp, SeparateReq, Data}
 use Rattle.state.specs.State.{connected, selected}
 use Rattle.state.specs.declared.Session.{Session}
 use Rattle.table.specs.Pick.{pick}
-use Rattle.table.specs.Table.{rejectedOf, selectOf, deselectOf, linktestedOf, separatedOf, s9Of, complainOf, secondaryOf, openedOf, primaryOf, dataOf, dataWhen, kindOf, cameOf, connectOf, disconnectOf, flagOf, sendOf, primaryWishOf, replyOf, repliedOf, linktestOf, separateOf, wishOf, t3Of, t6Of, t7Of, t8Of, timerOf, eventOf, stepOf}
+use Rattle.table.specs.Table.{rejectedOf, selectOf, deselectOf, linktestedOf, separatedOf, s9Of, complainOf, secondaryOf, openedOf, primaryOf, dataOf}
+use Rattle.table.specs.Table.{dataWhen, kindOf, cameOf, connectOf, disconnectOf, flagOf, sendOf, primaryWishOf, replyOf, repliedOf, linktestOf}
+use Rattle.table.specs.Table.{separateOf, wishOf, t3Of, t6Of, t7Of, t8Of, timerOf, eventOf, stepOf}
 use Rattle.table.specs.declared.Stepped.{Stepped}
 use Rattle.table.specs.declared.Timer.{Timer}
 use Rattle.table.specs.declared.Timer.the-variants.{T3, T6, T7, T8}
@@ -27,7 +30,8 @@ use Rattle.table.specs.declared.Event.the-variants.{Timer as onTimer, Wish as o
 use Rattle.table.proofs.Cases.{by-pick}
 use Rattle.reached.specs.Reached.{Fits}
 use Rattle.reached.proofs.Kept.{Kept, none-there}
-use Rattle.reached.proofs.Changed.{kept-moved, kept-untested, kept-tested, kept-connected, kept-selected, kept-deselected, kept-gone, kept-own-closed, kept-own-opened, kept-received-closed, kept-received-opened, kept-flag}
+use Rattle.reached.proofs.Changed.{kept-moved, kept-untested, kept-tested, kept-connected, kept-selected, kept-deselected, kept-gone}
+use Rattle.reached.proofs.Changed.{kept-own-closed, kept-own-opened, kept-received-closed, kept-received-opened, kept-flag}
 
 -- the new state keeps the facts
 abbrev Stays : Stepped → Type 0
@@ -98,7 +102,7 @@ module _ (s : Session) (k : Kept s) where
   kind-stays (OtherSType h) text fits = k
   kind-stays (SelectReq h) text fits = either _ _ _ k (kept-selected k)
   kind-stays (SelectRsp h) text fits = k
-  kind-stays (DeselectReq h) text fits = either _ _ _ (kept-deselected k) k
+  kind-stays (DeselectReq h) text fits = either _ _ _ (either _ _ _ k (kept-deselected k)) k
   kind-stays (DeselectRsp h) text fits = k
   kind-stays (LinktestReq h) text fits = k
   kind-stays (LinktestRsp h) text fits = either _ _ _ (kept-untested k) k

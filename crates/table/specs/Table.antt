@@ -7,14 +7,16 @@ use lib.ListN.{getD, set}
 use Rattle.frame.specs.Header.{wOf, streamOf, dataHeader}
 use Rattle.frame.specs.declared.Header.{Header}
 use Rattle.slots.specs.Slots.{free, slotOf, noTest, testOf, foundAt, isThere, runs, isPrimary}
-use Rattle.slots.specs.declared.Query.the-variants.{Free, Named, Answered}
+use Rattle.slots.specs.declared.Query.the-variants.{Free, Taken, Named, Answered}
 use Rattle.text.specs.Text.{judgedOf}
 use Rattle.message.specs.Message.{control, response, reject}
 use Rattle.message.specs.declared.Received.{Received}
-use Rattle.message.specs.declared.Received.the-variants.{Reject, OtherPType, OtherSType, SelectReq, SelectRsp, DeselectReq, DeselectRsp, LinktestReq, LinktestRsp, SeparateReq, Data}
+use Rattle.message.specs.declared.Received.the-variants.{Reject, OtherPType, OtherSType, SelectReq, SelectRsp, DeselectReq, DeselectRsp, LinktestReq}
+use Rattle.message.specs.declared.Received.the-variants.{LinktestRsp, SeparateReq, Data}
 use Rattle.message.specs.declared.Text.{Text}
 use Rattle.message.specs.declared.Text.the-variants.{Empty, About, Wished}
-use Rattle.state.specs.State.{connected, selected, withPhase, withTest, withReceived, withOwn, withFlag, receivedFreed, ownFreed, deselected, gone, fresh, numbered}
+use Rattle.state.specs.State.{connected, selected, withPhase, withTest, withReceived, withOwn, withFlag, receivedFreed, ownFreed, deselected, gone}
+use Rattle.state.specs.State.{fresh, numbered}
 use Rattle.table.specs.Answer.{answer, told, sent}
 use Rattle.listed.specs.Listed.{allows}
 use Rattle.table.specs.Pick.{pick}
@@ -39,6 +41,10 @@ ownAt s n = foundAt (Named n) (s .device .own)
 abbrev pub receivedAt : Session → ℕ → ℕ
 receivedAt s n = foundAt (Named n) (s .device .received)
 
+-- any received slot open
+abbrev pub receivedOpen : Session → Bool
+receivedOpen s = isThere Taken (s .device .received)
+
 -- ---- 1. SType 7: closes the own slot or linktest with these system bytes (34) or nothing (35)
 
 unfoldable pub rejectedOf : Session → Header → Stepped
@@ -58,15 +64,19 @@ rejecting s h reason = answer 0 s (reject h reason)
 unfoldable pub selectOf : Session → Header → Stepped
 selectOf s h = pick (selected s) (answer 0 s (response h 2 1)) (answer 0 (withPhase s Selected) (response h 2 0))
 
--- selected becomes not selected, all data slots emptied, status 0; not selected, status 1
+-- selected, with any received slot open: status 2 (busy), and nothing changes; with none open, becomes not selected, all data slots emptied, status 0;
+-- not selected, status 1
 unfoldable pub deselectOf : Session → Header → Stepped
-deselectOf s h = pick (selected s) (answer 0 (deselected s) (response h 4 0)) (answer 0 s (response h 4 1))
+deselectOf s h =
+    pick (selected s)
+    (pick (receivedOpen s) (answer 0 s (response h 4 2)) (answer 0 (deselected s) (response h 4 0)))
+    (answer 0 s (response h 4 1))
 
 -- type 6 closes the own linktest with these system bytes, else Reject, reason 3
 unfoldable pub linktestedOf : Session → Header → Stepped
 linktestedOf s h = pick (runs (s .link .linktest) (h .system)) (told 0 (withTest s noTest)) (rejecting s h 3)
 
--- selected becomes not selected, data slots emptied; not selected, nothing
+-- immediate, whatever is open: selected becomes not selected, data slots emptied; not selected, nothing
 unfoldable pub separatedOf : Session → Stepped
 separatedOf s = pick (selected s) (told 0 (deselected s)) (told 0 s)
 

@@ -40,6 +40,11 @@ pub fn make() -> Book {
     sessions.wish_texts();
     sessions.replies();
     sessions.emptied();
+    sessions.deselect_answers();
+    sessions.busy_till_closed();
+    sessions.busy_still();
+    sessions.not_busy();
+    sessions.left_though_busy();
     sessions.timers();
     sessions.random_runs();
     sessions.changed_by_hand();
@@ -61,6 +66,11 @@ fn received(header: Header, text: &[u8]) -> Event {
 
 fn data(w: bool, stream: u8, function: u8, system: u32) -> Event {
     received(Header::data(DEVICE, w, stream, function, system), LIST_OF_NONE)
+}
+
+/// A Deselect.req of which the response copies session ID and system bytes, and nothing else.
+fn deselect_of(session: u16) -> Event {
+    received(Header { session, byte2: 0x41, byte3: 0x51, ..header(3, 0x6171_8191) }, &[])
 }
 
 fn send(w: bool, stream: u8, function: u8) -> Event {
@@ -233,7 +243,7 @@ impl Sessions {
         self.events([control(7, 9), control(7, 1), control(7, 1)]);
         self.event(received(Header { ptype: 5, byte2: 5, byte3: 1, ..header(7, 2) }, &[]));
         self.events([control(7, 2), control(7, 3), control(7, 3), Event::Linktest]);
-        self.event(control(3, 5));
+        self.events([reply(1), control(3, 5)]);
         self.events([control(7, 4), Event::Linktest, Event::Disconnect, control(7, 5)]);
     }
 
@@ -518,19 +528,20 @@ impl Sessions {
         self.events([send(true, 1, 1), reply(1)]);
     }
 
-    /// What each way out of selected empties, and what it leaves.
+    /// What each way out of selected empties, and what it leaves. Deselect.req is one where no received slot is open.
     fn emptied(&mut self) {
         for (name, way) in [
-            ("Deselect.req", control(3, 9)),
-            ("Separate.req", control(9, 9)),
-            ("separate", Event::Separate),
-            ("disconnect", Event::Disconnect),
-            ("T6", Event::T6),
-            ("T8", Event::T8),
+            ("Deselect.req", vec![reply(40), control(3, 9)]),
+            ("Separate.req", vec![control(9, 9)]),
+            ("separate", vec![Event::Separate]),
+            ("disconnect", vec![Event::Disconnect]),
+            ("T6", vec![Event::T6]),
+            ("T8", vec![Event::T8]),
         ] {
             self.name(&format!("slots and linktest where selected is left by {name}"));
             self.selected();
-            self.events([send(true, 1, 1), Event::Linktest, data(true, 1, 1, 40), send(true, 1, 3), way]);
+            self.events([send(true, 1, 1), Event::Linktest, data(true, 1, 1, 40), send(true, 1, 3)]);
+            self.events(way);
             self.events([
                 Event::Connect,
                 control(1, 41),
@@ -540,6 +551,128 @@ impl Sessions {
                 control(6, 2),
             ]);
             self.events([Event::Linktest, send(true, 1, 1), data(true, 1, 1, 40)]);
+        }
+    }
+
+    fn deselect_answers(&mut self) {
+        let sessions = [0xFFFF, DEVICE, 0x2131];
+        self.name("Deselect.req, not connected and not selected");
+        self.make(DEVICE);
+        self.events(sessions.map(deselect_of));
+        self.event(Event::Connect);
+        self.events(sessions.map(deselect_of));
+        for (name, opening) in [
+            ("no slot", vec![]),
+            ("an own slot", vec![send(true, 1, 1)]),
+            ("a received slot", vec![data(true, 1, 1, 40)]),
+            ("a received slot and an own one", vec![data(true, 1, 1, 40), send(true, 1, 1)]),
+        ] {
+            for session in sessions {
+                self.name(&format!("Deselect.req twice, session ID {session:04X}, {name} open"));
+                self.selected();
+                self.events(opening.clone());
+                self.events([deselect_of(session), deselect_of(session)]);
+            }
+        }
+        self.name("Deselect.req of a PType that is not 0 is rejected, busy or not");
+        self.selected();
+        self.events([send(true, 1, 1), data(true, 1, 1, 40)]);
+        for then in [reply(40), control(3, 9)] {
+            self.events([1, 255].into_iter().flat_map(|ptype| marked(ptype, &[3], &[])));
+            self.events([control(3, 9), then]);
+        }
+    }
+
+    fn busy_till_closed(&mut self) {
+        let abort = |system: u32| Event::Abort { system };
+        for (name, first, last) in
+            [("replies", reply(40), reply(41)), ("aborts", abort(41), abort(40)), ("a reply and an abort", reply(41), abort(40))]
+        {
+            self.name(&format!("busy till the last received slot is closed: {name}"));
+            self.selected();
+            self.events([data(true, 1, 1, 40), data(true, 1, 3, 41), send(true, 1, 1)]);
+            for then in [first, last, control(1, 9)] {
+                self.events([control(3, 9), then]);
+            }
+            self.events([reply(40), data(false, 1, 2, 1), data(true, 1, 1, 40), control(3, 9)]);
+        }
+        self.name("busy with 32 received slots, then with that at place 31 alone");
+        self.all_received_open();
+        self.events((100..131).map(reply));
+        self.events([control(3, 9), reply(131), control(3, 9)]);
+        self.name("busy with 32 received slots, then with that at place 0 alone");
+        self.all_received_open();
+        self.events((101..132).rev().map(abort));
+        self.events([control(3, 9), abort(100), control(3, 9)]);
+    }
+
+    fn all_received_open(&mut self) {
+        self.selected();
+        self.events((100..132).map(|system| data(true, 1, 1, system)));
+        self.events([control(3, 9), data(true, 1, 1, 132), control(3, 9)]);
+    }
+
+    /// What closes no received slot.
+    fn busy_still(&mut self) {
+        let refused = Event::Reply { system: 1, text: NOT_GOOD.to_vec() };
+        for (name, events) in [
+            ("a reply refused", vec![refused, reply(2), Event::Abort { system: 3 }]),
+            ("Reject.req of the own slots", vec![control(7, 1), control(7, 1), control(7, 2)]),
+            ("T3 of the own slots", vec![Event::T3 { system: 1 }, Event::T3 { system: 1 }, Event::T3 { system: 2 }]),
+            ("replies to the own slots", vec![data(false, 1, 2, 1), data(false, 1, 2, 1), data(false, 1, 0, 2)]),
+            ("the own linktest", vec![Event::Linktest, control(6, 3), Event::Linktest, control(7, 4)]),
+            ("received control", vec![control(1, 1), control(5, 1), control(2, 1), control(8, 1)]),
+            ("the primary again", vec![data(true, 1, 1, 1), data(false, 1, 1, 1), data(true, 2, 1, 1)]),
+            ("wishes", vec![send(true, 1, 1), send(false, 1, 1), Event::Flag { stream: 1, set: false }]),
+        ] {
+            self.name(&format!("busy still: {name}"));
+            self.selected();
+            self.events([send(true, 1, 1), send(true, 1, 1), data(true, 1, 1, 1), control(3, 9)]);
+            for event in events {
+                self.events([event, control(3, 9)]);
+            }
+            self.events([reply(1), control(3, 9)]);
+        }
+    }
+
+    /// What opens no received slot.
+    fn not_busy(&mut self) {
+        let other = Header { session: 7, ..Header::data(DEVICE, true, 1, 1, 40) };
+        for (name, events) in [
+            ("a primary without W", vec![data(false, 1, 1, 40)]),
+            ("S9F1, S9F3, S9F5", vec![received(other, &[]), data(true, 2, 1, 40), data(true, 1, 255, 40)]),
+            ("S9F7", vec![received(Header::data(DEVICE, true, 1, 1, 40), NOT_GOOD)]),
+            ("a reply dropped", vec![send(true, 1, 1), data(true, 1, 2, 1), data(false, 1, 2, 40)]),
+            ("stream 9 dropped", vec![data(true, 9, 1, 40)]),
+            ("own primaries", vec![send(true, 1, 1), send(false, 1, 1)]),
+        ] {
+            self.name(&format!("not busy: {name}"));
+            self.selected();
+            self.events(events);
+            self.event(control(3, 9));
+        }
+        self.name("not busy: 32 own slots");
+        self.selected();
+        self.events((0..32).map(|_| send(true, 1, 1)));
+        self.event(control(3, 9));
+        self.name("not busy: a linktest, which stays");
+        self.selected();
+        self.events([Event::Linktest, control(3, 9), Event::Linktest, control(6, 1), control(3, 9)]);
+    }
+
+    /// Every other way out of selected is taken at once.
+    fn left_though_busy(&mut self) {
+        for (name, way) in [
+            ("Separate.req", control(9, 9)),
+            ("separate", Event::Separate),
+            ("disconnect", Event::Disconnect),
+            ("T6", Event::T6),
+            ("T8", Event::T8),
+        ] {
+            self.name(&format!("busy, and selected is left by {name}"));
+            self.selected();
+            self.events([send(true, 1, 1), Event::Linktest, data(true, 1, 1, 40), data(true, 1, 1, 41)]);
+            self.events([control(3, 9), way, control(3, 9), Event::Connect, control(1, 9), reply(40), control(3, 9)]);
         }
     }
 

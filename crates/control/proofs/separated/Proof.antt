@@ -16,18 +16,14 @@ told-of-requires c κs = search needs
 
 returns : tie.Need-returns
 unfolding separatedOf
-returns c =
-    first _ _ _ (told-so (c .before .before .before .is-selected .ensures) (c .before .before .if1 .taken))
-    (rw (c .told-of .ensures, c .before .deselect .ensures))
+returns c = first _ _ _ (search told-so) (rw (c .told-of .ensures, c .before .deselect .ensures))
 
 told-of-requires-2 : tie.Need-told-of-requires-2
 told-of-requires-2 c κs = search needs
 
 returns-2 : tie.Need-returns-2
 unfolding separatedOf
-returns-2 c =
-    second _ _ _ (told-so (c .before .before .is-selected .ensures) (c .before .if1 .left))
-    (rw (c .told-of2 .ensures))
+returns-2 c = second _ _ _ (search told-so) (rw (c .told-of2 .ensures))
 
 pub separated-spec : {M : Type 1} → statement M
 separated-spec =

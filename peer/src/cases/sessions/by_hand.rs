@@ -1,4 +1,5 @@
-//! States changed by hand: the list behind 14 broken and mended, and fresh numbers at their end and behind those held.
+//! States changed by hand: the list behind 14 broken and mended, fresh numbers at their end and behind those held, and
+//! Deselect.req with slots at any place.
 
 use super::{control, data, each_event, received, reply, send, Sessions, DEVICE, NOT_GOOD};
 use crate::frames::Header;
@@ -53,7 +54,7 @@ fn record_of(change: &Change) -> (char, Vec<u8>) {
     }
 }
 
-/// What breaks each line of a busy session, and an event for the state when it is put back.
+/// What breaks each line of a session with one each open, and an event for the state when it is put back.
 fn broken_lines() -> Vec<(&'static str, Vec<(Change, Event)>)> {
     let no_primary = |in_slot: fn(Slot) -> Change| {
         [(0, 1), (128, 1), (255, 3), (1, 0), (1, 2), (127, 254), (1, 255), (0, 0)]
@@ -105,6 +106,7 @@ impl Sessions {
         self.all_held();
         self.held_when_the_event_comes();
         self.numbers_freed();
+        self.deselect_by_hand();
         self.no_such_place();
         self.bytes_by_hand();
         self.short_by_hand();
@@ -143,7 +145,7 @@ impl Sessions {
     }
 
     /// Selected, with own slot 1, linktest 2 and received slot 40; the next own number is 3.
-    fn busy(&mut self) {
+    fn one_each_open(&mut self) {
         self.selected();
         self.events([send(true, 1, 1), Event::Linktest, data(true, 1, 1, 40)]);
     }
@@ -159,7 +161,7 @@ impl Sessions {
     fn lines_broken(&mut self) {
         for (at, (line, cases)) in broken_lines().into_iter().enumerate() {
             self.name(&format!("the list broken by {line}, and mended"));
-            self.busy();
+            self.one_each_open();
             for (case, (breaking, then)) in cases.into_iter().enumerate() {
                 self.broken_and_mended(at + case, breaking, then);
             }
@@ -199,7 +201,7 @@ impl Sessions {
         ];
         for (turn, (name, breaking, mending, then)) in cases.into_iter().enumerate() {
             self.name(&format!("the list mended otherwise: {name}"));
-            self.busy();
+            self.one_each_open();
             self.by_hand(breaking);
             self.event(then.clone());
             self.events(some_events(turn).take(2));
@@ -259,7 +261,7 @@ impl Sessions {
 
     fn two_lines_broken(&mut self) {
         self.name("two lines of the list broken, one mended, then the other");
-        self.busy();
+        self.one_each_open();
         self.by_hand(flag(0, true));
         self.by_hand(own_slot(31, left_over(1, 1, 1)));
         self.events([send(true, 1, 1), control(6, 2)]);
@@ -288,7 +290,7 @@ impl Sessions {
         ];
         for (name, change, events) in cases {
             self.name(&format!("the list allows {name}"));
-            self.busy();
+            self.one_each_open();
             self.by_hand(change);
             self.events(events);
         }
@@ -333,7 +335,7 @@ impl Sessions {
 
     fn numbers_unused(&mut self) {
         self.name("the next own number stays where no fresh one is taken");
-        self.busy();
+        self.one_each_open();
         self.by_hand(Change::Next(LAST));
         self.events([Event::Primary { w: true, stream: 1, function: 1, text: NOT_GOOD.to_vec() }, send(true, 1, 2)]);
         self.events([Event::Linktest, Event::T3 { system: 9 }, control(5, 9), control(8, 9), data(false, 9, 255, 9), reply(40)]);
@@ -343,7 +345,7 @@ impl Sessions {
 
     fn numbers_held(&mut self) {
         self.name("the next own number set back to one that an own slot or the linktest holds");
-        self.busy();
+        self.one_each_open();
         for next in [1, 2] {
             self.at_next(next, send(false, 1, 1));
             self.at_next(next, unknown_stream());
@@ -439,7 +441,7 @@ impl Sessions {
         self.at_next(LAST, Event::T3 { system: LAST });
         self.at_next(LAST, unknown_stream());
         self.name("what separate empties is held for its number");
-        self.busy();
+        self.one_each_open();
         self.at_next(1, Event::Separate);
         self.event(control(1, 9));
         self.at_next(1, Event::Separate);
@@ -465,23 +467,70 @@ impl Sessions {
             self.at_next(1, Event::Linktest);
         }
         self.name("a number freed by hand is taken again");
-        self.busy();
+        self.one_each_open();
         self.by_hand(own_slot(0, FREE));
         self.at_next(1, send(true, 1, 1));
         self.by_hand(Change::Linktest(CLOSED));
         self.at_next(1, Event::Linktest);
         self.name("a number not freed: a reply dropped, Deselect.req and the linktest");
-        self.busy();
+        self.one_each_open();
         self.event(data(false, 1, 4, 1));
         self.at_next(1, unknown_stream());
-        self.events([control(3, 9), control(1, 9)]);
+        self.events([reply(40), control(3, 9), control(1, 9)]);
         self.at_next(1, unknown_stream());
         self.event(unknown_stream());
     }
 
+    fn deselect_by_hand(&mut self) {
+        self.name("busy by a received slot at each place in turn");
+        self.selected();
+        for place in 0..32 {
+            let back = self.by_hand(received_slot(place, slot(u32::from(place), 1, 1)));
+            self.event(control(3, 9));
+            self.by_hand(back);
+        }
+        self.event(control(3, 9));
+        self.name("not busy by an own slot at any place");
+        self.selected();
+        for place in [0, 1, 30, 31] {
+            self.by_hand(own_slot(place, slot(u32::from(place), 1, 1)));
+            self.events([control(3, 9), control(1, 9)]);
+        }
+        self.name("14 before busy, and no slot that is not taken is open");
+        self.one_each_open();
+        let back = self.by_hand(received_slot(31, left_over(41, 1, 1)));
+        self.event(control(3, 9));
+        self.by_hand(received_slot(0, FREE));
+        self.event(control(3, 9));
+        self.by_hand(back);
+        self.event(control(3, 9));
+        let (received, own) = (received_slot(31, slot(40, 1, 1)), own_slot(17, slot(41, 1, 3)));
+        for (name, opening) in [
+            ("a received slot", vec![received]),
+            ("an own slot", vec![own]),
+            ("a received slot and an own one", vec![received, own]),
+        ] {
+            self.name(&format!("busy only when selected: {name} open"));
+            self.make(DEVICE);
+            for change in opening {
+                self.by_hand(change);
+            }
+            for phase in [Phase::NotConnected, Phase::NotSelected, Phase::Selected] {
+                self.by_hand(Change::Phase(phase));
+                self.event(control(3, 9));
+            }
+        }
+        self.name("the next own number stays, busy or not");
+        self.one_each_open();
+        for next in [1, LAST] {
+            self.at_next(next, control(3, 9));
+        }
+        self.events([reply(40), control(3, 9)]);
+    }
+
     fn no_such_place(&mut self) {
         self.name("by hand: a place above 31, a stream above 127");
-        self.busy();
+        self.one_each_open();
         for place in [32, 33, 64, 255] {
             self.by_hand(received_slot(place, slot(40, 0, 0)));
             self.by_hand(own_slot(place, left_over(1, 1, 1)));
@@ -497,7 +546,7 @@ impl Sessions {
 
     fn bytes_by_hand(&mut self) {
         self.name("by hand: any which but 0 is own");
-        self.busy();
+        self.one_each_open();
         self.odd_change("x 02 03 01 00000050 01 03", own_slot(3, slot(0x50, 1, 3)));
         self.odd_change("xFF0401000000510105", own_slot(4, slot(0x51, 1, 5)));
         self.odd_change("x ff 20 01 00000052 01 05", own_slot(32, slot(0x52, 1, 5)));
