@@ -1,5 +1,7 @@
 //! The second program: makes inputs and the outputs that must come of them, and lists captures.
 
+#[cfg(test)]
+mod audit;
 mod book;
 mod cases;
 mod elements;

@@ -8,11 +8,11 @@ use native.Mathlib.Decide.{ℕ-discrete, decLt}
 use native.Mathlib.Numerals.{add-one}
 use native.Mathlib.Omega.{arith}
 use borrow.Author.Tests.{eq-eqb, eqb-true, leb-true}
-use lib.Dec.{eqb, leb}
+use lib.Dec.{eqb, leb, ltb}
 use lib.ListN.{length, getD, set, length-set}
 use lib.Seq.{getD-set-same, getD-set-other}
 use Rattle.wire.proofs.Choice.{both}
-use Rattle.slots.specs.Slots.{free, slotOf, noSlots, passes, foundAt, isPrimary}
+use Rattle.slots.specs.Slots.{free, slotOf, noSlots, passes, foundAt, isThere, isPrimary}
 use Rattle.listed.specs.Tables.{allowsSlot, allowsFirst, allowsSlots}
 use Rattle.slots.specs.declared.Slot.{Slot}
 use Rattle.slots.specs.declared.Query.the-variants.{Named}
@@ -196,6 +196,9 @@ module _ {l : List Slot} (a : Allowed l) (n : ℕ) where
       go : (i : ℕ) → i < 32 → Dec (i ≡ at) → passes (Named n) (getD (set l at free) i free) ≡ false
       go i h (yes e) = ap (passes (Named n)) (same a at free i h e) ∙ free-not-named n
       go i h (no e) = ap (passes (Named n)) (other a at free i e) ∙ unnamed i h e (passes (Named n) (getD l i free)) refl
+
+pub closed-not-there : {l : List Slot} → Allowed l → (n : ℕ) → isThere (Named n) (set l (foundAt (Named n) l) free) ≡ false
+closed-not-there a n = ap (λ (i : ℕ). ltb i 32) (closed-none a n)
 
 -- a primary's stream is at most 127, its function at most 253
 pub primary-range : (m f : ℕ) → isPrimary m f ≡ true → (m ≤ 127) × (f ≤ 253)

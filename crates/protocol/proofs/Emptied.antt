@@ -2,12 +2,12 @@
 use Prim.Native.Nat.{ℕ}
 use mathlib.Core.Bool.{Bool, true, false}
 use mathlib.Core.List.{List}
-use mathlib.Core.Path.{_≡_, refl, ap}
+use mathlib.Core.Path.{_≡_, refl}
 use borrow.Author.Tests.{eqb-false}
-use lib.Dec.{eqb, ltb}
+use lib.Dec.{eqb}
 use Rattle.slots.specs.Slots.{noSlots, isThere}
 use Rattle.slots.specs.declared.Query.the-variants.{Taken}
-use Rattle.slots.proofs.Found.{no-slots-none, free-not-taken}
+use Rattle.slots.proofs.Found.{no-slots-there, free-not-taken}
 use Rattle.message.specs.declared.Send.{Send}
 use Rattle.state.specs.State.{selected, deselected, gone}
 use Rattle.listed.specs.Listed.{allows}
@@ -23,7 +23,7 @@ use Rattle.protocol.specs.Protocol.{AtOnce, Separates, separate-req, sep
 use Rattle.protocol.proofs.Open.{none-open, let-through}
 
 none-taken : isThere Taken noSlots ≡ false
-none-taken = ap (λ (i : ℕ). ltb i 32) (no-slots-none Taken free-not-taken)
+none-taken = no-slots-there Taken free-not-taken
 
 gone-all : (s : Session) → Gone s (gone s)
 gone-all s = record { slots = record { received = none-taken; own = none-taken }; linktest = refl; next = refl }

@@ -1,16 +1,12 @@
 -- Where the phase is not selected the list behind 14 leaves no slot open; where it is, neither 14 nor 20 is answered, but the row.
-use Prim.Native.Nat.{ℕ, _≤_, _<_}
+use Prim.Native.Nat.{ℕ, _<_}
 use mathlib.Core.Bool.{Bool, true, false, false≢true, cond}
-use mathlib.Core.List.{List}
 use mathlib.Core.Path.{_≡_, refl, sym, _∙_}
-use native.Mathlib.Decide.{decLt}
 use native.Mathlib.Omega.{arith}
 use borrow.Author.Tests.{ltb-true, lt-ltb}
-use lib.ListN.{length, getD}
-use Rattle.slots.specs.Slots.{free, passes, foundAt, isThere}
-use Rattle.slots.specs.declared.Slot.{Slot}
+use Rattle.slots.specs.Slots.{foundAt, isThere}
 use Rattle.slots.specs.declared.Query.the-variants.{Taken, Named}
-use Rattle.slots.proofs.Found.{found-most, found-least, found-passes, named-taken}
+use Rattle.slots.proofs.Found.{taken-first}
 use Rattle.state.specs.State.{connected, selected}
 use Rattle.state.specs.declared.Session.{Session}
 use Rattle.state.proofs.Phases.{selected-connected}
@@ -32,16 +28,7 @@ none-open s ok out = go (isThere Taken (s .device .received)) (isThere Taken (s 
     go false true p q e = absurd (false≢true e)
     go false false p q e = record { received = p; own = q }
 
--- a taken slot is found no later than one with given system bytes
-taken-first : (n : ℕ) (l : List Slot) → foundAt Taken l ≤ foundAt (Named n) l
-unfolding passes
-taken-first n l = go (decLt (foundAt (Named n) l) (length l))
-  where
-    go : Dec (foundAt (Named n) l < length l) → foundAt Taken l ≤ foundAt (Named n) l
-    go (yes h) = found-least Taken l (foundAt (Named n) l) (named-taken n (getD l (foundAt (Named n) l) free) (found-passes (Named n) l h))
-    go (no h) = omega (arith, found-most Taken l, found-most (Named n) l)
-
--- so an own slot with system bytes is there only in selected
+-- an own slot with system bytes is there only in selected
 pub own-selected : (s : Session) → allows s ≡ true → (n : ℕ) → isThere (Named n) (s .device .own) ≡ true → selected s ≡ true
 own-selected s ok n e = go (selected s) refl
   where

@@ -2,11 +2,11 @@
 use Prim.Native.Nat.{ℕ, _+_, _≤_, _<_}
 use mathlib.Core.Bool.{true, false}
 use mathlib.Core.List.{List}
-use mathlib.Core.Path.{_≡_, refl, ap, _∙_}
+use mathlib.Core.Path.{_≡_, refl, _∙_}
 use native.Mathlib.Nat.{mod-eq-of-lt}
 use native.Mathlib.Omega.{arith}
 use borrow.Author.Tests.{ltb-true, eq-eqb}
-use lib.Dec.{eqb, ltb}
+use lib.Dec.{eqb}
 use lib.ListN.{length, set}
 use Rattle.frame.specs.Header.{dataHeader}
 use Rattle.frame.specs.declared.Header.{Header}
@@ -15,7 +15,7 @@ use Rattle.slots.specs.Slots.{free, passes, isThere}
 use Rattle.slots.specs.declared.Slot.{Slot}
 use Rattle.slots.specs.declared.Query.the-variants.{Named}
 use Rattle.slots.proofs.Found.{found-passes, named-taken, named-system}
-use Rattle.listed.proofs.Allowed.{Allowed, allows-facts, facts-allow, closed-allowed, closed-none, primary-range}
+use Rattle.listed.proofs.Allowed.{Allowed, allows-facts, facts-allow, closed-allowed, closed-not-there, primary-range}
 use Rattle.text.specs.Text.{judgedOf}
 use Rattle.message.specs.declared.Text.{Text}
 use Rattle.message.specs.declared.Text.the-variants.{Empty, Wished}
@@ -75,7 +75,7 @@ module _ (s : Session) (n : ℕ) (size : length (s .device .received) ≡ 32) (o
   after-phase = phase
 
   after-none : isThere (Named n) (set received at free) ≡ false
-  after-none = ap (λ (i : ℕ). ltb i 32) (closed-none allowed n)
+  after-none = closed-not-there allowed n
 
   module _ (f : ℕ) (text : Text) (there : isThere (Named n) received ≡ true) where
     abbrev header : Header

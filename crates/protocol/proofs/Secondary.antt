@@ -6,7 +6,7 @@ use mathlib.Core.Logic.{_⊎_, inl, inr}
 use mathlib.Core.Path.{_≡_, refl, ap, sym, _∙_}
 use native.Mathlib.Omega.{arith}
 use borrow.Author.Tests.{ltb-true, eqb-true, eqb-false}
-use lib.Dec.{eqb, ltb}
+use lib.Dec.{eqb}
 use lib.ListN.{length, getD, set}
 use lib.Seq.{getD-set-same, getD-set-other}
 use Rattle.wire.specs.Number.{AtMost}
@@ -17,7 +17,7 @@ use Rattle.slots.specs.Slots.{free, passes, foundAt, isThere}
 use Rattle.slots.specs.declared.Slot.{Slot}
 use Rattle.slots.specs.declared.Query.the-variants.{Named, Answered}
 use Rattle.slots.proofs.Found.{found-passes}
-use Rattle.listed.proofs.Allowed.{Allowed, allows-facts, taken-place, closed-none}
+use Rattle.listed.proofs.Allowed.{Allowed, allows-facts, taken-place, closed-not-there}
 use Rattle.text.specs.Text.{judgedOf}
 use Rattle.text.proofs.Judged.{judged-range}
 use Rattle.message.specs.declared.Received.the-variants.{Data}
@@ -95,7 +95,7 @@ module _ (s : Session) (e : Event) (h : Header) (r : Stepped) (size : length (s 
         closed =
             ap (λ (x : Stepped). isThere (Named (h .system)) (x .session .device .own)) (a .is)
             ∙ ap (λ (i : ℕ). isThere (Named (h .system)) (set own i free)) (sym named)
-            ∙ ap (λ (i : ℕ). ltb i 32) (closed-none allowed (h .system));
+            ∙ closed-not-there allowed (h .system);
         silent = ap (λ (x : Stepped). x .send) (a .is);
       }
 

@@ -4,7 +4,7 @@ use mathlib.Core.Bool.{Bool, true, false, false≢true}
 use mathlib.Core.List.{List}
 use mathlib.Core.Path.{_≡_, refl, sym, _∙_}
 use native.Mathlib.Omega.{arith}
-use borrow.Author.Tests.{eq-eqb, ne-eqb}
+use borrow.Author.Tests.{eq-eqb}
 use lib.ListN.{set}
 use lib.Seq.{getD-set-other}
 use Rattle.slots.specs.Slots.{free, slotOf, noSlots, noTest, testOf, passes, foundAt, isPrimary}
@@ -13,7 +13,7 @@ use Rattle.slots.specs.declared.Slot.{Slot}
 use Rattle.slots.specs.declared.Linktest.{Linktest}
 use Rattle.slots.specs.declared.Query.{Query}
 use Rattle.slots.specs.declared.Query.the-variants.{Taken, Named}
-use Rattle.slots.proofs.Found.{stored-none, no-slots-none, free-not-taken, free-not-named}
+use Rattle.slots.proofs.Found.{other-named, stored-none, no-slots-none, free-not-taken, free-not-named}
 use Rattle.fresh.proofs.Fresh.{one-more-is, fresh-free, fresh-small, not-in-own, not-in-test}
 use Rattle.listed.proofs.Allowed.{Allowed, no-slots-allowed, closed-allowed, opened-allowed}
 use Rattle.state.proofs.Phases.{unselected}
@@ -60,8 +60,7 @@ module _ {own : List Slot} {t : Linktest} {next : ℕ} (o : Own own t next) wher
 
   module _ (n : ℕ) (small : n < 2 ^ 32) (not-held : isHeld own t n ≡ false) where
     other-number : (m f : ℕ) → t .running ≡ true → passes (Named (t .system)) (slotOf n m f) ≡ false
-    unfolding passes
-    other-number m f r = ne-eqb n (t .system) (λ e. false≢true (sym (not-in-test own t n not-held) ∙ rw (r, eq-eqb (t .system) n (sym e))))
+    other-number m f r = other-named n m f (t .system) (λ e. false≢true (sym (not-in-test own t n not-held) ∙ rw (r, eq-eqb (t .system) n (sym e))))
 
     own-opened : (at m f : ℕ) → isPrimary m f ≡ true → Own (set own at (slotOf n m f)) t (oneMore n)
     own-opened at m f p =

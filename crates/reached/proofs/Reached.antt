@@ -1,4 +1,4 @@
--- No event leads out of the list behind 14, and each open message has system bytes of its own: a made session has the facts behind the list, and each event keeps them.
+-- No event leads out of the list behind 14, and each open message has system bytes of its own: a made session has these facts, and each event keeps them.
 use Prim.Native.Nat.{ℕ, _≤_, _<_}
 use mathlib.Core.Bool.{true, false, false≢true}
 use mathlib.Core.List.{List, [], _∷_}
@@ -18,7 +18,7 @@ use Rattle.reached.proofs.Kept.{Kept, kept-allowed, allowed-kept}
 use Rattle.reached.proofs.Changed.{fresh-not-held}
 use Rattle.reached.proofs.Rows.{step-stays}
 
-made-sized : (id : ℕ) → Sized (sessionOf id)
+pub made-sized : (id : ℕ) → Sized (sessionOf id)
 unfolding sessionOf
 made-sized id = record { received = refl; own = refl; next = omega arith }
 
@@ -59,6 +59,7 @@ module _ (id : ℕ) (h : id ≤ 32767) (l : List Happened) (fits : AllFit l) whe
   pub reached-allowed : allows (after (sessionOf id) l) ≡ true
   reached-allowed = allowed-stays (sessionOf id) (made-sized id) (made-allowed id h) l fits
 
-  -- In each the fresh number is held by no own slot and not by the linktest, no two open own messages share system bytes, and no two open received primaries do.
+  -- In each the fresh number is held by no own slot and not by the linktest, no two open own messages share system bytes,
+  -- and no two open received primaries do.
   pub reached-one-each : OneEach (after (sessionOf id) l)
   reached-one-each = allowed-one-each (sessionOf id) (made-sized id) (made-allowed id h) l fits

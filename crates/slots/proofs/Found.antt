@@ -7,15 +7,15 @@ use native.Mathlib.Nat.{not-suc-le-zero, le-of-suc-le-suc}
 use native.Mathlib.Decide.{decLt}
 use native.Mathlib.Numerals.{add-one}
 use native.Mathlib.Omega.{arith}
-use borrow.Author.Tests.{eq-eqb, eqb-true}
-use lib.Dec.{eqb}
+use borrow.Author.Tests.{not-true, eq-eqb, eqb-true, ne-eqb}
+use lib.Dec.{eqb, ltb}
 use lib.ListN.{length, getD, drop, set, drop-of-length-le}
 use lib.Seq.{drop-cons, set-out}
 use Rattle.wire.proofs.Choice.{both}
-use Rattle.slots.specs.Slots.{free, noSlots, passes, foundAt}
+use Rattle.slots.specs.Slots.{free, slotOf, noSlots, passes, foundAt, isThere}
 use Rattle.slots.specs.declared.Slot.{Slot}
 use Rattle.slots.specs.declared.Query.{Query}
-use Rattle.slots.specs.declared.Query.the-variants.{Taken, Named}
+use Rattle.slots.specs.declared.Query.the-variants.{Free, Taken, Named}
 
 -- ---- from slot to slot
 
@@ -87,7 +87,11 @@ module _ (q : Query) (l : List Slot) where
   pub none-at : foundAt q l ≡ length l → (i : ℕ) → i < length l → passes q (getD l i free) ≡ false
   none-at e i h = found-before q l i (omega arith)
 
--- ---- a slot that is named
+-- ---- a slot that is free, and one that is named
+
+pub passes-free : (s : Slot) → passes Free s ≡ true → s .taken ≡ false
+unfolding passes
+passes-free s e = not-true (s .taken) e
 
 pub named-taken : (n : ℕ) (s : Slot) → passes (Named n) s ≡ true → s .taken ≡ true
 unfolding passes
@@ -100,6 +104,19 @@ named-system n s e = eqb-true (s .system) n (both (s .taken) (eqb (s .system) n)
 pub taken-named : (n : ℕ) (s : Slot) → s .taken ≡ true → s .system ≡ n → passes (Named n) s ≡ true
 unfolding passes
 taken-named n s e w = rw (e, eq-eqb (s .system) n w)
+
+pub other-named : (k m f n : ℕ) → (k ≡ n → ⊥) → passes (Named n) (slotOf k m f) ≡ false
+unfolding passes
+other-named k m f n e = ne-eqb k n e
+
+-- a taken slot is found no later than one that is named
+pub taken-first : (n : ℕ) (l : List Slot) → foundAt Taken l ≤ foundAt (Named n) l
+unfolding passes
+taken-first n l = go (decLt (foundAt (Named n) l) (length l))
+  where
+    go : Dec (foundAt (Named n) l < length l) → foundAt Taken l ≤ foundAt (Named n) l
+    go (yes h) = found-least Taken l (foundAt (Named n) l) (named-taken n (getD l (foundAt (Named n) l) free) (found-passes (Named n) l h))
+    go (no h) = omega (arith, found-most Taken l, found-most (Named n) l)
 
 -- ---- another slot is stored
 
@@ -126,6 +143,19 @@ module _ (q : Query) (x : Slot) (e : passes q x ≡ false) where
       go (yes h) = stored-other l at (λ w. omega arith) ∙ none
       go (no h) = ap (foundAt q) (set-out l at x (omega arith)) ∙ none
 
+-- one that passes, stored where none did
+module _ (q : Query) (x : Slot) (e : passes q x ≡ true) where
+  here-step : (b : Bool) (k m n at : ℕ) → cond b 0 (suc n) ≡ suc m → (n ≡ m → k ≡ at) → cond b 0 (suc k) ≡ suc at
+  here-step true k m n at none f = absurd (omega arith)
+  here-step false k m n at none f = ap suc (f (omega arith))
+
+  pub stored-here : (l : List Slot) (at : ℕ) → at < length l → foundAt q l ≡ length l → foundAt q (set l at x) ≡ at
+  unfolding foundAt
+  stored-here [] at h none = absurd (not-suc-le-zero h)
+  stored-here (s ∷ l) zero h none = rw e
+  stored-here (s ∷ l) (suc at) h none =
+      here-step (passes q s) (foundAt q (set l at x)) (length l) (foundAt q l) at none (λ w. stored-here l at (le-of-suc-le-suc h) w)
+
 -- ---- no slot is taken
 
 pub free-not-taken : passes Taken free ≡ false
@@ -139,3 +169,6 @@ free-not-named n = refl
 pub no-slots-none : (q : Query) → passes q free ≡ false → foundAt q noSlots ≡ 32
 unfolding foundAt
 no-slots-none q e = rw e
+
+pub no-slots-there : (q : Query) → passes q free ≡ false → isThere q noSlots ≡ false
+no-slots-there q e = ap (λ (i : ℕ). ltb i 32) (no-slots-none q e)

@@ -1,6 +1,10 @@
 //! Sessions: each row of the table, each number, long runs, states changed by hand.
 
+#[cfg(test)]
+mod audited;
 mod by_hand;
+#[cfg(test)]
+mod doctored;
 
 use crate::book::{hex, Book};
 use crate::frames::Header;

@@ -1,0 +1,10 @@
+pub mod Places
+pub mod Open
+pub mod Moves
+pub mod Stands
+pub mod Left
+pub mod Speaks
+pub mod Linked
+pub mod Once
+pub mod Audit
+pub mod Example
