@@ -135,14 +135,17 @@ worked-out = ap (λ (n : ℕ). lines n (freshOf noSlots noTest (oneMore n))) fir
 
 -- ---- what the theorems say of it
 
+never : {A : Type 0} → _≡_ {A = ℕ} 0 1 → A
+never e = absurd (omega arith)
+
 wish-fits : (w : Wish) → Fits (onWish w)
-wish-fits w h q = absurd (let z : _≡_ {A = ℕ} 0 1 = cc in omega arith)
+wish-fits w h q = never cc
 
 select-fits : (h : Header) → Fits (onReceived (SelectReq h))
-select-fits h k q = absurd (let z : _≡_ {A = ℕ} 0 1 = cc in omega arith)
+select-fits h k q = never cc
 
 separate-fits : (h : Header) → Fits (onReceived (SeparateReq h))
-separate-fits h k q = absurd (let z : _≡_ {A = ℕ} 0 1 = cc in omega arith)
+separate-fits h k q = never cc
 
 data-fits : (m n : ℕ) → Fits (onReceived (Data (asked m n)))
 data-fits m n h q = let z : asked m n ≡ h = cc in rw (← z) (omega arith)

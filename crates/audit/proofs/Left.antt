@@ -13,6 +13,7 @@ use Rattle.state.specs.State.{isSelected, connected, selected}
 use Rattle.state.specs.declared.Session.{Session}
 use Rattle.state.proofs.Phases.{unselected}
 use Rattle.listed.specs.Listed.{allows}
+use Rattle.table.specs.Pick.{pick}
 use Rattle.table.specs.Answer.{answer, told}
 use Rattle.table.specs.Table.{receivedOpen, deselectOf, separatedOf, kindOf, cameOf, disconnectOf, separateOf, wishOf}
 use Rattle.table.specs.Table.{t6Of, t7Of, t8Of, timerOf, eventOf, stepOf}
@@ -55,6 +56,13 @@ module _ (s : Session) (text : List ℕ) where
     leaves : {r : Stepped} → isSelected (r .session .link .phase) ≡ false → Out C r
     leaves z = record { out = λ _. z }
 
+    -- what is so of selected is so of every phase
+    in-any-phase : (r : Stepped) (k : ℕ) (m : Send) → Out C r → Out C (pick (connected s) (pick (selected s) r (answer k s m)) (told 20 s))
+    in-any-phase r k m o =
+        by-pick (Out C) (connected s) _ _
+        (λ _. by-pick (Out C) (selected s) _ _ (λ _. o) (λ z. still-out k m z))
+        (λ c. unconnected 20 c)
+
   module _ (h : Header) where
     abbrev Done : Stepped → Type 0
     Done r = r .send ≡ response h 4 0
@@ -65,30 +73,19 @@ module _ (s : Session) (text : List ℕ) where
 
     deselect-out : Out Done (eventOf s (onReceived (DeselectReq h)) text)
     unfolding eventOf cameOf kindOf deselectOf
-    deselect-out =
-        by-pick (Out Done) (connected s) _ _
-        (λ _. by-pick (Out Done) (selected s) _ _
-        (λ _. by-pick (Out Done) (receivedOpen s) _ _ (λ _. busy) (λ _. leaves refl))
-        (λ z. still-out 0 _ z))
-        (λ c. unconnected 20 c)
+    deselect-out = in-any-phase _ 0 _ (by-pick (Out Done) (receivedOpen s) _ _ (λ _. busy) (λ _. leaves refl))
 
   abbrev Always : Stepped → Type 0
   Always r = Unit {0}
 
   separate-out : (e : Event) → Separates e → Out Always (eventOf s e text)
   unfolding eventOf cameOf kindOf separatedOf wishOf separateOf
-  separate-out e (separate-req h) =
-      by-pick (Out Always) (connected s) _ _
-      (λ _. by-pick (Out Always) (selected s) _ _ (λ _. leaves refl) (λ z. still-out 0 _ z))
-      (λ c. unconnected 20 c)
-  separate-out e separate =
-      by-pick (Out Always) (connected s) _ _
-      (λ _. by-pick (Out Always) (selected s) _ _ (λ _. leaves refl) (λ z. still-out 22 _ z))
-      (λ c. unconnected 20 c)
+  separate-out e (separate-req h) = in-any-phase _ 0 _ (leaves refl)
+  separate-out e separate = in-any-phase _ 22 _ (leaves refl)
 
-  disconnect-out : Out Always (eventOf s (onWish Disconnect) text)
+  disconnect-out : {C : Stepped → Type 0} → Out C (eventOf s (onWish Disconnect) text)
   unfolding eventOf wishOf disconnectOf
-  disconnect-out = by-pick (Out Always) (connected s) _ _ (λ _. leaves refl) (λ c. unconnected 20 c)
+  disconnect-out {C = C} = by-pick (Out C) (connected s) _ _ (λ _. leaves refl) (λ c. unconnected 20 c)
 
   abbrev Ran : Stepped → Type 0
   Ran r = r .number ≡ 0
@@ -97,8 +94,8 @@ module _ (s : Session) (text : List ℕ) where
   not-running = record { out = λ z. absurd (omega arith) }
 
   closing-out : (e : Event) → Disconnects e → Out Ran (eventOf s e text)
-  unfolding eventOf wishOf disconnectOf timerOf t6Of t7Of t8Of
-  closing-out e disconnect = by-pick (Out Ran) _ _ _ (λ _. leaves refl) (λ c. unconnected 20 c)
+  unfolding eventOf timerOf t6Of t7Of t8Of
+  closing-out e disconnect = disconnect-out
   closing-out e t6 = by-pick (Out Ran) _ _ _ (λ _. leaves refl) (λ _. not-running)
   closing-out e t7 = by-pick (Out Ran) _ _ _ (λ _. not-running) (λ _. by-pick (Out Ran) _ _ _ (λ _. leaves refl) (λ _. not-running))
   closing-out e t8 = by-pick (Out Ran) _ _ _ (λ _. leaves refl) (λ _. not-running)
