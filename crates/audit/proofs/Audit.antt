@@ -8,15 +8,15 @@ use Rattle.frame.specs.declared.Header.{Header}
 use Rattle.message.specs.Message.{response}
 use Rattle.message.specs.declared.Received.the-variants.{DeselectReq}
 use Rattle.state.specs.State.{isSelected}
-use Rattle.table.specs.declared.Timer.{Timer}
-use Rattle.table.specs.declared.Wish.the-variants.{Disconnect}
-use Rattle.table.specs.declared.Event.the-variants.{Timer as onTimer, Wish as onWish, Received as onReceived}
+use Rattle.session.specs.declared.Timer.{Timer}
+use Rattle.session.specs.declared.Wish.the-variants.{Disconnect}
+use Rattle.session.specs.declared.Event.the-variants.{Timer as onTimer, Wish as onWish, Received as onReceived}
 use Rattle.reached.specs.Reached.{Happened, AllFit}
 use Rattle.protocol.specs.Protocol.{isData, Separates, Disconnects}
 use Rattle.audit.specs.Run.{Seen, runOf, At}
 use Rattle.audit.specs.Audit.{answered, Answers, Unanswered, UnansweredAfter, SuitsAt, Unasked, dropped}
 use Rattle.audit.proofs.Left.{Leaves, by-deselect, by-separate, by-disconnect, by-closing}
-use Rattle.audit.proofs.Linked.{AllSound, sound-at, run-sound}
+use Rattle.audit.proofs.Sound.{AllSound, sound-at, run-sound}
 use Rattle.audit.proofs.Once.{one-answer, not-after, not-dropped, what-answers}
 
 -- For any device ID that a session is made with, and any sequence of events from a fresh session (of received data, byte 3 is a byte):

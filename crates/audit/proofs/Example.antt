@@ -6,9 +6,11 @@ use mathlib.Core.Logic.{inl, inr}
 use mathlib.Core.Option.{Option, none, some}
 use mathlib.Core.Path.{_≡_, refl, ap, _∙_}
 use native.Mathlib.Omega.{arith}
+use Rattle.wire.specs.Pick.{pick}
+use Rattle.wire.specs.Search.{firstAt}
 use Rattle.frame.specs.Header.{dataHeader}
 use Rattle.frame.specs.declared.Header.{Header}
-use Rattle.slots.specs.Slots.{noSlots, noTest, foundAt, passes}
+use Rattle.slots.specs.Slots.{noSlots, noTest, passes}
 use Rattle.fresh.specs.Fresh.{isHeld, oneMore, freshOf}
 use Rattle.fresh.proofs.Fresh.{first-here}
 use Rattle.text.specs.Text.{judgedOf}
@@ -21,18 +23,19 @@ use Rattle.message.specs.declared.Received.the-variants.{SelectReq, SeparateReq
 use Rattle.message.specs.declared.Text.the-variants.{About, Wished}
 use Rattle.message.specs.declared.Send.{Send}
 use Rattle.message.specs.declared.Send.the-variants.{Nothing, Message}
-use Rattle.state.specs.State.{sessionOf, connected, selected}
+use Rattle.state.specs.State.{sessionOf}
 use Rattle.state.specs.declared.Phase.{Phase}
 use Rattle.state.specs.declared.Phase.the-variants.{NotSelected, Selected}
-use Rattle.listed.specs.Tables.{allowsSlots, allowsFirst}
-use Rattle.listed.specs.Listed.{allows, allowsDevice, allowsTables, allowsTest, allowsPhase, testClosed}
-use Rattle.table.specs.Pick.{pick}
-use Rattle.table.specs.Table.{stepOf, eventOf, wishOf, connectOf, flagOf, primaryWishOf, sendOf, replyOf, repliedOf, cameOf, kindOf, selectOf, separatedOf}
-use Rattle.table.specs.Table.{dataWhen, dataOf, primaryOf, openedOf, complainOf, s9Of}
-use Rattle.table.specs.declared.Wish.{Wish}
-use Rattle.table.specs.declared.Wish.the-variants.{Connect, Flag, Primary, Reply}
-use Rattle.table.specs.declared.Event.{Event}
-use Rattle.table.specs.declared.Event.the-variants.{Wish as onWish, Received as onReceived}
+use Rattle.allowed.specs.Slots.{allowsSlots, allowsFirst}
+use Rattle.allowed.specs.States.{allows, allowsLink, allowsDevice, allowsOpen, allowsTest}
+use Rattle.link.specs.Rows as link
+use Rattle.device.specs.Rows as device
+use Rattle.session.specs.Gates.{andThen, whenConnected, whenSelected, whenGood, whenStream, whenPrimary, wishGate, eventGate, gateOf}
+use Rattle.session.specs.Table.{dataOf, cameOf, wishOf, eventOf, stepOf}
+use Rattle.session.specs.declared.Wish.{Wish}
+use Rattle.session.specs.declared.Wish.the-variants.{Connect, Flag, Primary, Reply}
+use Rattle.session.specs.declared.Event.{Event}
+use Rattle.session.specs.declared.Event.the-variants.{Wish as onWish, Received as onReceived}
 use Rattle.reached.specs.Reached.{Happened, Fits, AllFit}
 use Rattle.protocol.specs.Protocol.{separate-req}
 use Rattle.audit.specs.Run.{Seen, runFrom, runOf}
@@ -82,25 +85,23 @@ account (x ∷ v) = (x .number, x .send, x .after, answered x v) ∷ account v
 abbrev said : ℕ → ℕ → ℕ → Header
 said m f n = record { session = 5; byte2 = m; byte3 = f; ptype = 0; stype = 0; system = n }
 
--- what is looked through to work it out: the rows of what is received, the rows of wishes, the list behind 14, and how a text without bytes is judged
-the-received : Unit {0}
-unfolding cameOf kindOf selectOf separatedOf dataWhen dataOf primaryOf openedOf complainOf s9Of dataHeader
-the-received = tt
+-- what is looked through to work it out: the gates with the list behind 14, the rows of either half, and how a text without bytes is judged
+the-gates : Unit {0}
+unfolding andThen whenConnected whenSelected whenGood whenStream whenPrimary wishGate eventGate gateOf
+    allows allowsLink allowsDevice allowsOpen allowsTest allowsSlots allowsFirst
+the-gates = tt
 
-the-wished : Unit {0}
-unfolding wishOf connectOf flagOf primaryWishOf sendOf replyOf repliedOf
-the-wished = tt
-
-the-list : Unit {0}
-unfolding allows allowsDevice allowsTables allowsTest allowsPhase testClosed allowsSlots allowsFirst
-the-list = tt
+the-rows : Unit {0}
+unfolding link.connectOf link.selectReqOf link.separateReqOf device.dataOf device.primaryOf device.openedOf device.complainOf
+    device.flagOf device.sendOf device.replyOf device.repliedOf dataHeader
+the-rows = tt
 
 the-text : Unit {0}
 unfolding judgedOf total stackOf levelsOf cleanOf fitsItems fresh readsPhase allowsFrame allowsEnd readerAllows status eat fedOf
 the-text = tt
 
 the-run : Unit {0}
-unfolding the-received the-wished the-list the-text runFrom sessionOf stepOf eventOf pick connected selected foundAt passes lastDelivered
+unfolding the-gates the-rows the-text runFrom sessionOf stepOf eventOf cameOf dataOf wishOf pick firstAt passes lastDelivered
 the-run = tt
 
 -- the two fresh numbers

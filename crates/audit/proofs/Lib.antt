@@ -4,7 +4,7 @@ pub mod Moves
 pub mod Stands
 pub mod Left
 pub mod Speaks
-pub mod Linked
+pub mod Sound
 pub mod Once
 pub mod Audit
 pub mod Example

@@ -19,7 +19,7 @@ use Rattle.audit.specs.Audit.{Entry, primary, reply, neither, entryOf, a
 use Rattle.audit.proofs.Places.{at-place, at-below, at-whole, at-earlier, at-one, seen-whole}
 use Rattle.audit.proofs.Open.{some-one, closes, openAt, closes-ends, open-last, last-came, open-since}
 use Rattle.audit.proofs.Open.{How, at-once, later, how}
-use Rattle.audit.proofs.Linked.{Sound, AllSound, sound-at}
+use Rattle.audit.proofs.Sound.{Sound, AllSound, sound-at}
 
 -- ---- what is delivered has number 30, and no two system bytes
 

@@ -15,11 +15,11 @@ use Rattle.message.specs.declared.Received.the-variants.{LinktestRsp, SeparateR
 use Rattle.message.specs.declared.Text.the-variants.{Empty, About, Wished}
 use Rattle.message.specs.declared.Send.{Send}
 use Rattle.message.specs.declared.Send.the-variants.{Message}
-use Rattle.table.specs.declared.Timer.the-variants.{T3}
-use Rattle.table.specs.declared.Wish.{Wish}
-use Rattle.table.specs.declared.Wish.the-variants.{Connect, Disconnect, Flag, Primary, Reply, Abort, Linktest, Separate}
-use Rattle.table.specs.declared.Event.{Event}
-use Rattle.table.specs.declared.Event.the-variants.{Timer as onTimer, Wish as onWish, Received as onReceived}
+use Rattle.session.specs.declared.Timer.the-variants.{T3}
+use Rattle.session.specs.declared.Wish.{Wish}
+use Rattle.session.specs.declared.Wish.the-variants.{Connect, Disconnect, Flag, Primary, Reply, Abort, Linktest, Separate}
+use Rattle.session.specs.declared.Event.{Event}
+use Rattle.session.specs.declared.Event.the-variants.{Timer as onTimer, Wish as onWish, Received as onReceived}
 use Rattle.protocol.specs.Protocol.{isData}
 use Rattle.audit.specs.Run.{Seen, SeenAt}
 

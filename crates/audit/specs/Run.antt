@@ -8,9 +8,9 @@ use Rattle.message.specs.declared.Send.{Send}
 use Rattle.state.specs.State.{sessionOf}
 use Rattle.state.specs.declared.Phase.{Phase}
 use Rattle.state.specs.declared.Session.{Session}
-use Rattle.table.specs.Table.{stepOf}
-use Rattle.table.specs.declared.Stepped.{Stepped}
-use Rattle.table.specs.declared.Event.{Event}
+use Rattle.session.specs.Table.{stepOf}
+use Rattle.session.specs.declared.Stepped.{Stepped}
+use Rattle.session.specs.declared.Event.{Event}
 use Rattle.reached.specs.Reached.{Happened}
 
 -- an event, the phase in which it begins, the number answered, what is sent, and the phase in which it ends

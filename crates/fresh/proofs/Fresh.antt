@@ -11,13 +11,14 @@ use borrow.Author.Tests.{eq-eqb, ne-eqb, eqb-true, le-ltb, ltb-false}
 use lib.Dec.{eqb}
 use lib.ListN.{length, getD}
 use Rattle.wire.proofs.Choice.{both}
-use Rattle.slots.specs.Slots.{free, foundAt, isThere, runs}
+use Rattle.slots.specs.Slots.{free, passes, foundAt, isThere, runs}
 use Rattle.fresh.specs.Fresh.{isHeld, oneMore, on, firstOf, freshOf}
 use Rattle.slots.specs.declared.Slot.{Slot}
 use Rattle.slots.specs.declared.Linktest.{Linktest}
 use Rattle.slots.specs.declared.Query.the-variants.{Named}
+use Rattle.slots.proofs.Found.{named-system}
+use Rattle.wire.proofs.Search.{first-most, first-passes}
 use Rattle.fresh.proofs.Pigeon.{no-one-to-one}
-use Rattle.slots.proofs.Found.{found-most, found-passes, named-system}
 
 -- ---- numbers in a row
 
@@ -114,8 +115,8 @@ module _ (own : List Slot) (t : Linktest) (size : length own ≡ 32) where
       go : Dec (foundAt (Named a) own < 32) → a ≡ b
       go (yes h) =
           let s : ℕ → Slot = λ i. getD own i free in
-          let p : s (foundAt (Named a) own) .system ≡ a = named-system a (s (foundAt (Named a) own)) (found-passes (Named a) own (omega arith)) in
-          let q : s (foundAt (Named b) own) .system ≡ b = named-system b (s (foundAt (Named b) own)) (found-passes (Named b) own (omega arith)) in
+          let p : s (foundAt (Named a) own) .system ≡ a = named-system a (s (foundAt (Named a) own)) (first-passes (passes (Named a)) free own (omega arith)) in
+          let q : s (foundAt (Named b) own) .system ≡ b = named-system b (s (foundAt (Named b) own)) (first-passes (passes (Named b)) free own (omega arith)) in
           sym p ∙ ap (λ (i : ℕ). s i .system) e ∙ q
       go (no h) =
           let p : runs t a ≡ true = rw (le-ltb (foundAt (Named a) own) 32 (omega arith)) at ha in
@@ -125,7 +126,7 @@ module _ (own : List Slot) (t : Linktest) (size : length own ≡ 32) where
   not-all : (n : ℕ) → n < 2 ^ 32 → ((i : ℕ) → i ≤ 33 → isHeld own t (on i n) ≡ true) → ⊥
   not-all n h f =
       no-one-to-one 33 (λ i. foundAt (Named (on i n)) own)
-      (λ i hi. omega (arith, found-most (Named (on i n)) own))
+      (λ i hi. omega (arith, first-most (passes (Named (on i n))) own))
       (λ i j hi hj e.
       let z : on i n ≡ on j n = one-holder (on i n) (on j n) (f i hi) (f j hj) e in
       omega (arith, on-is i n h, on-is j n h))
@@ -180,7 +181,7 @@ module _ (own : List Slot) (t : Linktest) (n : ℕ) (e : isHeld own t n ≡ fals
   pub not-in-own : length own ≡ 32 → foundAt (Named n) own ≡ 32
   unfolding isHeld
   not-in-own size =
-      omega (arith, size, found-most (Named n) own, ltb-false (foundAt (Named n) own) 32 (apart (isThere (Named n) own) e .0))
+      omega (arith, size, first-most (passes (Named n)) own, ltb-false (foundAt (Named n) own) 32 (apart (isThere (Named n) own) e .0))
 
   pub not-in-test : runs t n ≡ false
   unfolding isHeld

@@ -1,8 +1,12 @@
 pub mod Open
+pub mod Halves
 pub mod Rows
 pub mod Refused
 pub mod Quiet
 pub mod Emptied
+pub mod Phases
 pub mod Busy
+pub mod Carried
+pub mod Heard
 pub mod Secondary
 pub mod Replies

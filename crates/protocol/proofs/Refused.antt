@@ -6,12 +6,11 @@ use mathlib.Core.Path.{_≡_, ap, sym, _∙_}
 use native.Mathlib.Omega.{arith}
 use borrow.Author.Tests.{ne-eqb}
 use Rattle.state.specs.declared.Session.{Session}
-use Rattle.table.specs.Answer.{told}
-use Rattle.table.specs.Table.{stepOf}
-use Rattle.table.specs.declared.Stepped.{Stepped}
-use Rattle.table.specs.declared.Event.{Event}
+use Rattle.session.specs.Table.{told, stepOf}
+use Rattle.session.specs.declared.Stepped.{Stepped}
+use Rattle.session.specs.declared.Event.{Event}
 use Rattle.protocol.specs.Protocol.{acts, Unchanged}
-use Rattle.protocol.proofs.Rows.{Does, stays, judges, links, carries, answers, step-does}
+use Rattle.protocol.proofs.Rows.{Does, stays, judges, links, carries, by-hearing, answers, step-does}
 
 told-unchanged : (s : Session) (n : ℕ) (r : Stepped) → r ≡ told n s → Unchanged s r
 told-unchanged s n r e = record { state = ap (λ (x : Stepped). x .session) e; silent = ap (λ (x : Stepped). x .send) e }
@@ -21,7 +20,8 @@ does-unchanged s e text r (stays n z is) idle = told-unchanged s n r is
 does-unchanged s e text r (judges z is) idle = told-unchanged s _ r is
 does-unchanged s e text r (links a z y) idle = absurd (false≢true (sym idle ∙ a))
 does-unchanged s e text r (carries z a y) idle = absurd (false≢true (sym idle ∙ a))
-does-unchanged s e text r (answers h a) idle = absurd (false≢true (sym idle ∙ ap (λ (x : Stepped). acts (x .number)) (a .is)))
+does-unchanged s e text r (by-hearing h i is q) idle = absurd (false≢true (sym idle ∙ ap acts is))
+does-unchanged s e text r (answers h a) idle = absurd (false≢true (sym idle ∙ ap acts (a .number)))
 
 module _ (s : Session) (e : Event) (text : List ℕ) where
   -- Unless the number is 0, 30, 31 or 34 the state is as it was and nothing is sent: so too where a message is dropped, 32 and 33, or closes nothing, 35.

@@ -2,77 +2,82 @@
 use Prim.Native.Nat.{ℕ, _+_, _≤_, _<_}
 use mathlib.Core.Bool.{true, false}
 use mathlib.Core.List.{List}
-use mathlib.Core.Path.{_≡_, refl, _∙_}
+use mathlib.Core.Path.{_≡_, refl, ap, _∙_}
 use native.Mathlib.Nat.{mod-eq-of-lt}
 use native.Mathlib.Omega.{arith}
-use borrow.Author.Tests.{ltb-true, eq-eqb}
-use lib.Dec.{eqb}
+use borrow.Author.Tests.{ltb-true}
 use lib.ListN.{length, set}
+use Rattle.wire.proofs.Pick.{pick-false, by-pick}
+use Rattle.wire.proofs.Search.{first-passes}
 use Rattle.frame.specs.Header.{dataHeader}
 use Rattle.frame.specs.declared.Header.{Header}
 use Rattle.frame.proofs.Laws.{data-w, data-stream}
 use Rattle.slots.specs.Slots.{free, passes, isThere}
 use Rattle.slots.specs.declared.Slot.{Slot}
 use Rattle.slots.specs.declared.Query.the-variants.{Named}
-use Rattle.slots.proofs.Found.{found-passes, named-taken, named-system}
-use Rattle.listed.proofs.Allowed.{Allowed, allows-facts, facts-allow, closed-allowed, closed-not-there, primary-range}
+use Rattle.slots.proofs.Found.{named-system, named-taken}
 use Rattle.text.specs.Text.{judgedOf}
 use Rattle.message.specs.declared.Text.{Text}
 use Rattle.message.specs.declared.Text.the-variants.{Empty, Wished}
 use Rattle.message.specs.declared.Send.the-variants.{Nothing, Message}
-use Rattle.state.specs.State.{connected, selected, receivedFreed}
-use Rattle.listed.specs.Listed.{allowsDevice, allowsTest, allowsPhase, allows}
+use Rattle.state.specs.State.{fresh, selected, receivedFreed}
+use Rattle.state.specs.declared.Device.{Device}
 use Rattle.state.specs.declared.Session.{Session}
-use Rattle.listed.proofs.Listed.{listed, relisted}
-use Rattle.table.specs.Pick.{pick}
-use Rattle.table.specs.Answer.{answer, told, sent}
-use Rattle.table.specs.Table.{receivedAt, whenSelected, replyOf, repliedOf, wishOf, eventOf, stepOf}
-use Rattle.table.specs.declared.Stepped.{Stepped}
-use Rattle.table.specs.declared.Wish.the-variants.{Reply, Abort}
-use Rattle.table.specs.declared.Event.the-variants.{Wish as onWish}
-use Rattle.table.proofs.Cases.{pick-true, pick-false, by-pick}
-use Rattle.protocol.specs.Protocol.{primaryAt, Replied}
-use Rattle.protocol.proofs.Open.{let-through}
+use Rattle.allowed.specs.States.{allowsOpen, allowsTest, allows}
+use Rattle.allowed.proofs.Slots.{Allowed, allows-facts, facts-allow, closed-allowed, closed-not-there, primary-range}
+use Rattle.allowed.proofs.States.{holds, holds-allowed}
+use Rattle.device.specs.Rows as device
+use Rattle.device.specs.declared.Acted.{Acted}
+use Rattle.session.specs.Table.{told, byDevice, wishOf, eventOf, stepOf}
+use Rattle.session.specs.declared.Stepped.{Stepped}
+use Rattle.session.specs.declared.Wish.the-variants.{Reply, Abort}
+use Rattle.session.specs.declared.Event.the-variants.{Wish as onWish}
+use Rattle.session.proofs.Gates.{let-through, by-gate}
+use Rattle.protocol.specs.Protocol.{primaryAt, withDevice, Replied}
 
 -- ---- where no received slot has these system bytes, both are 25
 
-module _ (t : Session) (n : ℕ) (ok : allows t ≡ true) (phase : selected t ≡ true) (none : isThere (Named n) (t .device .received) ≡ false) where
-  not-open : (r : Stepped) → pick (isThere (Named n) (t .device .received)) r (told 25 t) ≡ told 25 t
-  not-open r = pick-false (isThere (Named n) (t .device .received)) r (told 25 t) none
+not-open : (d : Device) (n f : ℕ) (text : Text) → isThere (Named n) (d .received) ≡ false → device.repliedOf d n f text ≡ device.told 25 d
+unfolding device.repliedOf
+not-open d n f text none = pick-false (isThere (Named n) (d .received)) _ _ none
 
+module _ (t : Session) (n : ℕ) (ok : allows t ≡ true) (phase : selected (t .link) ≡ true) (none : isThere (Named n) (t .device .received) ≡ false) where
   no-reply : (later : List ℕ) → judgedOf later ≡ 0 → stepOf t (onWish (Reply n)) later ≡ told 25 t
-  unfolding stepOf eventOf wishOf replyOf repliedOf
-  no-reply later good = let-through t ok phase _ _ ∙ pick-true (eqb (judgedOf later) 0) _ _ (eq-eqb (judgedOf later) 0 good) ∙ not-open _
+  unfolding eventOf wishOf device.replyOf
+  no-reply later good =
+      let-through t (onWish (Reply n)) later ok (record { phase = phase; good = good }) ∙ ap (byDevice t (fresh t)) (not-open (t .device) n _ Wished none)
 
   no-abort : (later : List ℕ) → stepOf t (onWish (Abort n)) later ≡ told 25 t
-  unfolding stepOf eventOf wishOf repliedOf
-  no-abort later = let-through t ok phase _ _ ∙ not-open _
+  unfolding eventOf wishOf device.abortOf
+  no-abort later = let-through t (onWish (Abort n)) later ok phase ∙ ap (byDevice t (fresh t)) (not-open (t .device) n 0 Empty none)
 
 -- ---- what goes out closes its slot
 
-module _ (s : Session) (n : ℕ) (size : length (s .device .received) ≡ 32) (ok : allows s ≡ true) (phase : selected s ≡ true) where
+module _ (s : Session) (n : ℕ) (size : length (s .device .received) ≡ 32) (ok : allows s ≡ true) (phase : selected (s .link) ≡ true) where
   abbrev received : List Slot
   received = s .device .received
 
   abbrev at : ℕ
-  at = receivedAt s n
+  at = device.receivedAt (s .device) n
 
   abbrev after : Session
-  after = receivedFreed s at
+  after = withDevice s (receivedFreed (s .device) at)
 
   allowed : Allowed received
-  allowed = allows-facts received size (listed s ok .received)
+  allowed = allows-facts received size (holds s ok .device .received)
 
   after-allowed : allows after ≡ true
-  unfolding allowsDevice allowsTest allowsPhase selected
+  unfolding allowsOpen allowsTest
   after-allowed =
-      let l = listed s ok in
-      relisted after
-      (record { device = l .device; received = facts-allow (closed-allowed allowed at); own = l .own; test = l .test; phase = rw phase })
-
-  after-phase : selected after ≡ true
-  unfolding selected
-  after-phase = phase
+      let h = holds s ok in
+      let d = h .device in
+      holds-allowed after
+      (record {
+        link = h .link;
+        device = record { id = d .id; flag = d .flag; received = facts-allow (closed-allowed allowed at); own = d .own };
+        phase = rw phase;
+        test = h .test;
+      })
 
   after-none : isThere (Named n) (set received at free) ≡ false
   after-none = closed-not-there allowed n
@@ -85,7 +90,7 @@ module _ (s : Session) (n : ℕ) (size : length (s .device .received) ≡ 32) (o
     place = ltb-true at 32 there
 
     passed : passes (Named n) (primaryAt s n) ≡ true
-    passed = found-passes (Named n) received (omega (arith, size, place))
+    passed = first-passes (passes (Named n)) free received (omega (arith, size, place))
 
     is-open : primaryAt s n .taken ≡ true
     is-open = named-taken n (primaryAt s n) passed
@@ -93,7 +98,7 @@ module _ (s : Session) (n : ℕ) (size : length (s .device .received) ≡ 32) (o
     small : primaryAt s n .stream ≤ 127
     small = primary-range (primaryAt s n .stream) (primaryAt s n .function) (allowed .primary at place is-open) .0
 
-    replies : Replied s n f text (answer 0 after (Message header text))
+    replies : Replied s n f text (byDevice s (fresh s) (device.answer 0 (receivedFreed (s .device) at) (Message header text)))
     unfolding dataHeader
     replies =
         record {
@@ -107,57 +112,38 @@ module _ (s : Session) (n : ℕ) (size : length (s .device .received) ≡ 32) (o
           no-w = data-w (s .device .id) false (primaryAt s n .stream) f n;
           closes = refl;
           closed = after-none;
-          not-again = no-reply after n after-allowed after-phase after-none;
-          nor-aborted = no-abort after n after-allowed after-phase after-none;
+          not-again = no-reply after n after-allowed phase after-none;
+          nor-aborted = no-abort after n after-allowed phase after-none;
         }
 
 -- ---- the rows of reply and abort
 
 -- where anything is sent, it is the reply
-record Goes (s : Session) (n f : ℕ) (text : Text) (r : Stepped) : Type 0 where
-  goes : (r .send ≡ Nothing → ⊥) → Replied s n f text r
+abbrev Goes : Session → ℕ → ℕ → Text → Stepped → Type 0
+Goes s n f text r = (r .send ≡ Nothing → ⊥) → Replied s n f text r
 
-module _ (s : Session) (n f : ℕ) (text : Text) where
-  silent : (k : ℕ) → Goes s n f text (told k s)
-  silent k = record { goes = λ some. absurd (some refl) }
+module _ (s : Session) (n : ℕ) (size : length (s .device .received) ≡ 32) where
+  record RowGoes (f : ℕ) (text : Text) (a : Acted) : Type 0 where
+    goes : Goes s n f text (byDevice s (fresh s) a)
 
-  -- 14, 20, 22 first
-  gate : (r : Stepped) → (allows s ≡ true → selected s ≡ true → Goes s n f text r) → Goes s n f text (pick (allows s) (whenSelected s r) (told 14 s))
-  gate r go =
-      by-pick (Goes s n f text) (allows s) (whenSelected s r) (told 14 s)
-      (λ ok. by-pick (Goes s n f text) (connected s) (pick (selected s) r (told 22 s)) (told 20 s)
-      (λ _. by-pick (Goes s n f text) (selected s) r (told 22 s) (go ok) (λ _. silent 22))
-      (λ _. silent 20))
-      (λ _. silent 14)
-
-  row : length (s .device .received) ≡ 32 → allows s ≡ true → selected s ≡ true
-      → Goes s n f text
-      (pick (isThere (Named n) (s .device .received))
-      (answer 0 (receivedFreed s (receivedAt s n)) (sent s false (primaryAt s n .stream) f n text))
-      (told 25 s))
-  row size ok phase =
-      by-pick (Goes s n f text) (isThere (Named n) (s .device .received)) _ (told 25 s)
+  row-goes : (f : ℕ) (text : Text) → allows s ≡ true → selected (s .link) ≡ true → RowGoes f text (device.repliedOf (s .device) n f text)
+  unfolding device.repliedOf
+  row-goes f text ok phase =
+      by-pick (RowGoes f text) _ _ _
       (λ there. record { goes = λ _. replies s n size ok phase f text there })
-      (λ _. silent 25)
+      (λ _. record { goes = λ some. absurd (some refl) })
 
-module _ (s : Session) (n : ℕ) (text : List ℕ) (size : length (s .device .received) ≡ 32) where
-  reply-goes : Goes s n (primaryAt s n .function + 1) Wished (stepOf s (onWish (Reply n)) text)
-  unfolding stepOf eventOf wishOf replyOf repliedOf
-  reply-goes =
-      gate s n _ Wished _
-      (λ ok phase.
-      by-pick (Goes s n (primaryAt s n .function + 1) Wished) (eqb (judgedOf text) 0) _ (told (judgedOf text) s)
-      (λ _. row s n _ Wished size ok phase) (λ _. silent s n _ Wished (judgedOf text)))
+  module _ (text : List ℕ) where
+    -- A REPLY THAT IS ASKED FOR GOES OUT ONLY FOR A RECEIVED PRIMARY THAT IS STILL OPEN, with its stream, system bytes and function one more, and closes it;
+    -- after it, the same reply is 25.
+    pub replied : (stepOf s (onWish (Reply n)) text .send ≡ Nothing → ⊥) → Replied s n (primaryAt s n .function + 1) Wished (stepOf s (onWish (Reply n)) text)
+    unfolding eventOf wishOf device.replyOf
+    replied =
+        by-gate (Goes s n (primaryAt s n .function + 1) Wished) s (onWish (Reply n)) text
+        (λ ok g. row-goes _ Wished ok (g .phase) .goes) (λ _ _ some. absurd (some refl))
 
-  abort-goes : Goes s n 0 Empty (stepOf s (onWish (Abort n)) text)
-  unfolding stepOf eventOf wishOf repliedOf
-  abort-goes = gate s n 0 Empty _ (row s n 0 Empty size)
-
-  -- A REPLY THAT IS ASKED FOR GOES OUT ONLY FOR A RECEIVED PRIMARY THAT IS STILL OPEN, with its stream, system bytes and function one more, and closes it;
-  -- after it, the same reply is 25.
-  pub replied : (stepOf s (onWish (Reply n)) text .send ≡ Nothing → ⊥) → Replied s n (primaryAt s n .function + 1) Wished (stepOf s (onWish (Reply n)) text)
-  replied = reply-goes .goes
-
-  -- SO DOES AN ABORT, with function 0 and no text.
-  pub aborted : (stepOf s (onWish (Abort n)) text .send ≡ Nothing → ⊥) → Replied s n 0 Empty (stepOf s (onWish (Abort n)) text)
-  aborted = abort-goes .goes
+    -- SO DOES AN ABORT, with function 0 and no text.
+    pub aborted : (stepOf s (onWish (Abort n)) text .send ≡ Nothing → ⊥) → Replied s n 0 Empty (stepOf s (onWish (Abort n)) text)
+    unfolding eventOf wishOf device.abortOf
+    aborted =
+        by-gate (Goes s n 0 Empty) s (onWish (Abort n)) text (λ ok phase. row-goes 0 Empty ok phase .goes) (λ _ _ some. absurd (some refl))

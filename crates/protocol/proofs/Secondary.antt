@@ -5,7 +5,7 @@ use mathlib.Core.List.{List}
 use mathlib.Core.Logic.{_⊎_, inl, inr}
 use mathlib.Core.Path.{_≡_, refl, ap, sym, _∙_}
 use native.Mathlib.Omega.{arith}
-use borrow.Author.Tests.{ltb-true, eqb-true, eqb-false}
+use borrow.Author.Tests.{ltb-true, eqb-true}
 use lib.Dec.{eqb}
 use lib.ListN.{length, getD, set}
 use lib.Seq.{getD-set-same, getD-set-other}
@@ -16,19 +16,19 @@ use Rattle.frame.specs.declared.Header.{Header}
 use Rattle.slots.specs.Slots.{free, passes, foundAt, isThere}
 use Rattle.slots.specs.declared.Slot.{Slot}
 use Rattle.slots.specs.declared.Query.the-variants.{Named, Answered}
-use Rattle.slots.proofs.Found.{found-passes}
-use Rattle.listed.proofs.Allowed.{Allowed, allows-facts, taken-place, closed-not-there}
+use Rattle.wire.proofs.Search.{first-passes}
+use Rattle.allowed.proofs.Slots.{Allowed, allows-facts, taken-place, closed-not-there}
 use Rattle.text.specs.Text.{judgedOf}
 use Rattle.text.proofs.Judged.{judged-range}
 use Rattle.message.specs.declared.Received.the-variants.{Data}
 use Rattle.state.specs.declared.Session.{Session}
-use Rattle.listed.proofs.Listed.{listed}
-use Rattle.table.specs.Table.{stepOf}
-use Rattle.table.specs.declared.Stepped.{Stepped}
-use Rattle.table.specs.declared.Event.{Event}
-use Rattle.table.specs.declared.Event.the-variants.{Received as onReceived}
+use Rattle.allowed.proofs.States.{holds}
+use Rattle.session.specs.Table.{stepOf}
+use Rattle.session.specs.declared.Stepped.{Stepped}
+use Rattle.session.specs.declared.Event.{Event}
+use Rattle.session.specs.declared.Event.the-variants.{Received as onReceived}
 use Rattle.protocol.specs.Protocol.{delivers, answeredAt, ownOf, Awaits, Delivered, NotSwapped}
-use Rattle.protocol.proofs.Rows.{Answers, Does, stays, judges, links, carries, answers, step-does}
+use Rattle.protocol.proofs.Rows.{Answers, Does, stays, judges, links, carries, by-hearing, answers, step-does}
 
 -- ---- the primary that a secondary answers
 
@@ -62,7 +62,8 @@ module _ (s : Session) (e : Event) (text : List ℕ) (r : Stepped) (bytes : AtMo
       let k : judgedOf text ≡ 31 = sym (ap (λ (x : Stepped). x .number) w) ∙ is in
       absurd (omega (arith, judged-range text bytes))
   does-answer (links a z y) = absurd (elsewhere z)
-  does-answer (carries z a y) = absurd (eqb-false (r .number) 31 y is)
+  does-answer (carries z a y) = absurd (elsewhere y)
+  does-answer (by-hearing h i w q) = let k : _≡_ {A = ℕ} 30 31 = sym w ∙ is in absurd (omega arith)
   does-answer (answers h a) = (h, a)
 
 module _ (s : Session) (e : Event) (h : Header) (r : Stepped) (size : length (s .device .own) ≡ 32) (a : Answers s e h r) where
@@ -76,10 +77,10 @@ module _ (s : Session) (e : Event) (h : Header) (r : Stepped) (size : length (s 
   place = ltb-true at 32 (a .there)
 
   awaits : Awaits h (ownOf s at)
-  awaits = answered-awaits h (ownOf s at) (found-passes (Answered (h .system) (streamOf h) (h .byte3)) own (omega (arith, size, place)))
+  awaits = answered-awaits h (ownOf s at) (first-passes (passes (Answered (h .system) (streamOf h) (h .byte3))) free own (omega (arith, size, place)))
 
   allowed : Allowed own
-  allowed = allows-facts own size (listed s (a .allowed) .own)
+  allowed = allows-facts own size (holds s (a .allowed) .device .own)
 
   -- the first slot with these system bytes is the one that is closed
   named : foundAt (Named (h .system)) own ≡ at
@@ -91,18 +92,18 @@ module _ (s : Session) (e : Event) (h : Header) (r : Stepped) (size : length (s 
         place = place;
         awaits = awaits;
         no-w = a .no-w;
-        closes = ap (λ (x : Stepped). x .session) (a .is);
+        closes = a .closes;
         closed =
-            ap (λ (x : Stepped). isThere (Named (h .system)) (x .session .device .own)) (a .is)
+            ap (λ (x : Session). isThere (Named (h .system)) (x .device .own)) (a .closes)
             ∙ ap (λ (i : ℕ). isThere (Named (h .system)) (set own i free)) (sym named)
             ∙ closed-not-there allowed (h .system);
-        silent = ap (λ (x : Stepped). x .send) (a .is);
+        silent = a .silent;
       }
 
   apart : NotSwapped s h r
   apart i j hi other ti e =
       let here : i ≡ at = sym (taken-place allowed i hi ti) ∙ ap (λ (n : ℕ). foundAt (Named n) own) e ∙ named in
-      let after : (k : ℕ) → ownOf (r .session) k ≡ getD (set own at free) k free = λ k. ap (λ (x : Stepped). ownOf (x .session) k) (a .is) in (
+      let after : (k : ℕ) → ownOf (r .session) k ≡ getD (set own at free) k free = λ k. ap (λ (x : Session). ownOf x k) (a .closes) in (
         after i ∙ ap (λ (k : ℕ). getD (set own at free) k free) here ∙ getD-set-same own at free free (omega (arith, size, place)),
         after j ∙ getD-set-other own at j free free (λ w. other (here ∙ sym w)),
       )

@@ -7,12 +7,13 @@ use native.Mathlib.Omega.{arith}
 use lib.ListN.{getD}
 use Rattle.slots.specs.Slots.{free, passes}
 use Rattle.slots.specs.declared.Query.the-variants.{Named}
-use Rattle.slots.proofs.Found.{none-at, taken-named}
+use Rattle.slots.proofs.Found.{taken-named}
+use Rattle.wire.proofs.Search.{none-at}
 use Rattle.state.specs.State.{sessionOf}
-use Rattle.listed.specs.Listed.{allows}
+use Rattle.allowed.specs.States.{allows}
 use Rattle.state.specs.declared.Session.{Session}
-use Rattle.listed.proofs.Made.{made-allowed}
-use Rattle.table.specs.Table.{stepOf}
+use Rattle.allowed.proofs.Made.{made-allowed}
+use Rattle.session.specs.Table.{stepOf}
 use Rattle.reached.specs.Reached.{Happened, after, AllFit, Sized, OneEach}
 use Rattle.reached.proofs.Kept.{Kept, kept-allowed, allowed-kept}
 use Rattle.reached.proofs.Changed.{fresh-not-held}
@@ -32,13 +33,15 @@ kept-one-each : (s : Session) → Kept s → OneEach s
 kept-one-each s k =
     record {
       fresh-free = fresh-not-held k;
-      own = k .own .table .apart;
+      own = k .device .own .apart;
       test = λ r i h taken same. false≢true (sym (unnamed r i h) ∙ taken-named (s .link .linktest .system) (getD (s .device .own) i free) taken same);
-      received = k .received .apart;
+      received = k .device .received .apart;
     }
   where
     unnamed : s .link .linktest .running ≡ true → (i : ℕ) → i < 32 → passes (Named (s .link .linktest .system)) (getD (s .device .own) i free) ≡ false
-    unnamed r i h = none-at (Named (s .link .linktest .system)) (s .device .own) (k .own .apart r ∙ sym (k .own .table .size)) i (rw (k .own .table .size) h)
+    unnamed r i h =
+        none-at (passes (Named (s .link .linktest .system))) free (s .device .own)
+        (k .test .none r ∙ sym (k .device .own .size)) i (rw (k .device .own .size) h)
 
 -- ---- from any state that the list allows
 

@@ -1,161 +1,260 @@
--- Each row of the table keeps the facts: it leaves the state as it is, or changes it in a way that keeps them where the row's tests hold.
-use Prim.Native.Nat.{ℕ, _%_, _^_, _<_}
+-- Each row of the table keeps the facts: it leaves its half as it is, or changes it in a way that keeps them where the row's tests and the gates hold.
+use Prim.Native.Nat.{ℕ, _%_, _^_, _≤_, _<_}
 use mathlib.Core.Bool.{Bool, true, false, false≢true}
 use mathlib.Core.List.{List}
 use mathlib.Core.Path.{_≡_, refl, sym, ap, _∙_}
 use native.Mathlib.Omega.{arith}
-use borrow.Author.Tests.{leb-true, le-leb, eq-eqb, eqb-false}
+use borrow.Author.Tests.{le-leb, eq-eqb, eqb-false}
 use lib.Dec.{eqb}
-use lib.ListN.{getD}
+use lib.ListN.{getD, set}
+use Rattle.wire.specs.Pick.{pick}
+use Rattle.wire.proofs.Pick.{by-pick}
 use Rattle.frame.specs.Header.{streamOf}
 use Rattle.frame.specs.declared.Header.{Header}
-use Rattle.slots.specs.Slots.{foundAt, isThere, isPrimary}
+use Rattle.slots.specs.Slots.{slotOf, noTest, isThere, isPrimary}
 use Rattle.slots.specs.declared.Query.the-variants.{Named}
-use Rattle.message.specs.declared.Received.{Received}
-use Rattle.message.specs.declared.Received.the-variants.{Reject, OtherPType, OtherSType, SelectReq, SelectRsp, DeselectReq, DeselectRsp, LinktestReq}
-use Rattle.message.specs.declared.Received.the-variants.{LinktestRsp, SeparateReq, Data}
-use Rattle.state.specs.State.{connected, selected}
+use Rattle.slots.proofs.Found.{none-there}
+use Rattle.message.specs.declared.Text.{Text}
+use Rattle.message.specs.declared.Send.{Send}
+use Rattle.state.specs.State.{fresh, isConnected, isSelected, withPhase, withTest, numbered, withReceived, ownFreed}
+use Rattle.state.specs.declared.Phase.the-variants.{NotSelected, Selected}
+use Rattle.state.specs.declared.Link.{Link}
 use Rattle.state.specs.declared.Session.{Session}
-use Rattle.table.specs.Pick.{pick}
-use Rattle.table.specs.Table.{rejectedOf, selectOf, deselectOf, linktestedOf, separatedOf, s9Of, complainOf, secondaryOf, openedOf, primaryOf, dataOf}
-use Rattle.table.specs.Table.{dataWhen, kindOf, cameOf, connectOf, disconnectOf, flagOf, sendOf, primaryWishOf, replyOf, repliedOf, linktestOf}
-use Rattle.table.specs.Table.{separateOf, wishOf, t3Of, t6Of, t7Of, t8Of, timerOf, eventOf, stepOf}
-use Rattle.table.specs.declared.Stepped.{Stepped}
-use Rattle.table.specs.declared.Timer.{Timer}
-use Rattle.table.specs.declared.Timer.the-variants.{T3, T6, T7, T8}
-use Rattle.table.specs.declared.Wish.{Wish}
-use Rattle.table.specs.declared.Wish.the-variants.{Connect, Disconnect, Flag, Primary, Reply, Abort, Linktest, Separate}
-use Rattle.table.specs.declared.Event.{Event}
-use Rattle.table.specs.declared.Event.the-variants.{Timer as onTimer, Wish as onWish, Received as onReceived}
-use Rattle.table.proofs.Cases.{by-pick}
+use Rattle.state.proofs.Phases.{unselected}
+use Rattle.link.specs.Rows as link
+use Rattle.link.specs.declared.Linked.{Linked}
+use Rattle.device.specs.Rows as device
+use Rattle.device.specs.declared.Acted.{Acted}
+use Rattle.device.proofs.Rows.{Ends, drops, complains, closes, aborts, opens, hears, data-ends}
+use Rattle.session.specs.Table.{byLink, byDevice, stepOf}
+use Rattle.session.specs.declared.Stepped.{Stepped}
+use Rattle.session.specs.declared.Event.{Event}
+use Rattle.session.proofs.Rows.{LinkRow, rejecting-row, rejected-row, select-req-row, deselect-req-row, linktest-req-row, linktest-rsp-row, separate-req-row}
+use Rattle.session.proofs.Rows.{connect-row, disconnect-row, linktest-row, separate-row, t6-row, t7-row, t8-row}
+use Rattle.session.proofs.Rows.{DeviceRow, rejected-own-row, data-row, flag-row, send-row, reply-row, abort-row, t3-row}
+use Rattle.session.proofs.Rows.{Step, by-link, by-device, stops, step}
 use Rattle.reached.specs.Reached.{Fits}
-use Rattle.reached.proofs.Kept.{Kept, none-there}
-use Rattle.reached.proofs.Changed.{kept-moved, kept-untested, kept-tested, kept-connected, kept-selected, kept-deselected, kept-gone}
-use Rattle.reached.proofs.Changed.{kept-own-closed, kept-own-opened, kept-received-closed, kept-received-opened, kept-flag}
+use Rattle.reached.proofs.Kept.{KeptLink, Kept}
+use Rattle.reached.proofs.Changed.{link-untested, link-phased, link-gone, link-numbered, link-tested}
+use Rattle.reached.proofs.Changed.{device-emptied, device-own-freed, device-received-freed, device-own-opened, device-received-opened, device-flag}
+use Rattle.reached.proofs.Changed.{shut-emptied, shut-selected, shut-still, shut-flag, shut-own-freed, shut-received-freed}
+use Rattle.reached.proofs.Changed.{untested, test-emptied, test-freed, test-opened, fresh-not-held, fresh-unnamed, fresh-unshared, fresh-in-range}
 
--- the new state keeps the facts
-abbrev Stays : Stepped → Type 0
-Stays r = Kept (r .session)
+-- the session keeps the facts when a row of the link, or of the device, is done to it
+record LinkStays (s : Session) (r : Linked) : Type 0 where
+  kept : Kept (byLink s r .session)
 
--- both ways of a choice do
-either : (b : Bool) (x y : Stepped) → Stays x → Stays y → Stays (pick b x y)
-either b x y f g = by-pick Stays b x y (λ e. f) (λ e. g)
+record DeviceStays (s : Session) (a : Acted) : Type 0 where
+  kept : Kept (byDevice s (fresh s) a .session)
 
 module _ (s : Session) (k : Kept s) where
-  -- ---- received
+  abbrev n : ℕ
+  n = fresh s
 
-  rejected-stays : (h : Header) → Stays (rejectedOf s h)
-  unfolding rejectedOf
-  rejected-stays h = either _ _ _ (kept-own-closed k _) (either _ _ _ (kept-untested k) k)
+  -- ---- rows of the link
 
-  complain-stays : (h : Header) (f : ℕ) → Stays (complainOf s h f)
-  unfolding complainOf s9Of
-  complain-stays h f = either _ _ _ k (kept-moved k)
+  link-either : (b : Bool) (x y : Linked) → LinkStays s x → LinkStays s y → LinkStays s (pick b x y)
+  link-either b x y f g = by-pick (LinkStays s) b x y (λ e. f) (λ e. g)
 
-  secondary-stays : (h : Header) → Stays (secondaryOf s h)
-  unfolding secondaryOf
-  secondary-stays h = either _ _ _ k (either _ _ _ (kept-own-closed k _) k)
+  same-link : {i : ℕ} {m : Send} → LinkStays s (link.answer i (s .link) m)
+  same-link = record { kept = k }
+
+  untests : {i : ℕ} {m : Send} → LinkStays s (link.answer i (withTest (s .link) noTest) m)
+  untests = record { kept = record { link = link-untested (k .link); device = k .device; shut = k .shut; test = untested (s .device .own) } }
+
+  -- what leaves its phase empties the slots
+  leaves : {l : Link} {m : Send} → KeptLink l → LinkStays s (link.leaves l m)
+  leaves {l = l} kept =
+      record {
+        kept =
+            record { link = kept; device = device-emptied (k .device); shut = shut-emptied (l .phase) (s .device); test = test-emptied (l .linktest) };
+      }
+
+  disconnect-stays : LinkStays s (link.disconnectOf (s .link))
+  unfolding link.disconnectOf
+  disconnect-stays = leaves (link-gone (k .link))
+
+  t8-stays : LinkStays s (link.t8Of (s .link))
+  unfolding link.t8Of
+  t8-stays = link-either _ _ _ disconnect-stays same-link
+
+  selects : {m : Send} → LinkStays s (link.answer 0 (withPhase (s .link) Selected) m)
+  selects =
+      record {
+        kept = record { link = link-phased (k .link) Selected refl; device = k .device; shut = shut-selected Selected (s .device) refl; test = k .test };
+      }
+
+  deselected : KeptLink (withPhase (s .link) NotSelected)
+  deselected = link-phased (k .link) NotSelected refl
+
+  connect-stays : LinkStays s (link.connectOf (s .link))
+  unfolding link.connectOf
+  connect-stays =
+      by-pick (LinkStays s) _ _ _ (λ c. same-link)
+      (λ c.
+      let shut = shut-still (k .shut) NotSelected (unselected (s .link .phase) c) in
+      record { kept = record { link = deselected; device = k .device; shut = shut; test = k .test } })
+
+  linktest-stays : isConnected (s .link .phase) ≡ true → LinkStays s (link.linktestOf (s .link) n)
+  unfolding link.linktestOf
+  linktest-stays c =
+      link-either _ _ _ same-link
+      (record { kept = record { link = link-tested (k .link) n (fresh-in-range k) c; device = k .device; shut = k .shut; test = fresh-unshared k } })
+
+  separate-stays : LinkStays s (link.separateOf (s .link) n)
+  unfolding link.separateOf
+  separate-stays = leaves (link-phased (link-numbered (k .link) n (fresh-in-range k)) NotSelected refl)
+
+  -- ---- rows of the device
+
+  device-either : (b : Bool) (x y : Acted) → DeviceStays s x → DeviceStays s y → DeviceStays s (pick b x y)
+  device-either b x y f g = by-pick (DeviceStays s) b x y (λ e. f) (λ e. g)
+
+  same-device : {i : ℕ} {m : Send} → DeviceStays s (device.answer i (s .device) m)
+  same-device = record { kept = k }
+
+  kept-numbered : KeptLink (numbered (s .link) n)
+  kept-numbered = link-numbered (k .link) n (fresh-in-range k)
+
+  takes : {m : Send} → DeviceStays s (device.takes (s .device) m)
+  takes = record { kept = record { link = kept-numbered; device = k .device; shut = k .shut; test = k .test } }
+
+  own-freed : (at : ℕ) {i : ℕ} {m : Send} → DeviceStays s (device.answer i (ownFreed (s .device) at) m)
+  own-freed at =
+      record {
+        kept =
+            record {
+              link = k .link;
+              device = device-own-freed (k .device) at;
+              shut = shut-own-freed (k .shut) (k .device .own) at;
+              test = test-freed (k .test) (k .device .own) at;
+            };
+      }
+
+  rejected-stays : (h : Header) → DeviceStays s (device.rejectedOf (s .device) h)
+  unfolding device.rejectedOf
+  rejected-stays h = device-either _ _ _ (own-freed _) same-device
 
   -- an odd function of a byte that is not 255, of a stream whose flag is set
   heard-primary : (h : Header) → h .byte3 < 2 ^ 8 → eqb (h .byte3 % 2) 0 ≡ false → getD (s .device .flags) (streamOf h) false ≡ true
       → eqb (h .byte3) 255 ≡ false → isPrimary (streamOf h) (h .byte3) ≡ true
   heard-primary h byte odd flag not255 =
-      let some : streamOf h ≡ 0 → ⊥ = λ e. false≢true (sym (k .flag) ∙ ap (λ (m : ℕ). getD (s .device .flags) m false) (sym e) ∙ flag) in
+      let some : streamOf h ≡ 0 → ⊥ = λ e. false≢true (sym (k .device .flag) ∙ ap (λ (m : ℕ). getD (s .device .flags) m false) (sym e) ∙ flag) in
       let o : h .byte3 % 2 ≡ 0 → ⊥ = eqb-false (h .byte3 % 2) 0 odd in
       let n : h .byte3 ≡ 255 → ⊥ = eqb-false (h .byte3) 255 not255 in
       rw
       (le-leb 1 (streamOf h) (omega arith), le-leb (streamOf h) 127 (omega arith), eq-eqb (h .byte3 % 2) 1 (omega arith), le-leb (h .byte3) 253 (omega arith))
 
-  opened-stays : (h : Header) → selected s ≡ true → isPrimary (streamOf h) (h .byte3) ≡ true → Stays (openedOf s h)
-  unfolding openedOf selected
-  opened-stays h e p =
-      by-pick Stays _ _ _ (λ a. k)
-      (λ a. either _ _ _ (kept-received-opened k e _ (streamOf h) (h .byte3) p (h .system) (none a)) k)
-    where
-      none : isThere (Named (h .system)) (s .device .received) ≡ false → foundAt (Named (h .system)) (s .device .received) ≡ 32
-      none a = none-there (Named (h .system)) (s .device .received) (k .received .size) a
+  -- ---- in selected
 
-  primary-stays : (h : Header) (text : List ℕ) → selected s ≡ true → h .byte3 < 2 ^ 8 → eqb (h .byte3 % 2) 0 ≡ false → Stays (primaryOf s h text)
-  unfolding primaryOf
-  primary-stays h text e byte odd =
-      by-pick Stays _ _ _
-      (λ flag.
-      by-pick Stays _ _ _ (λ a. complain-stays h 5)
-      (λ not255.
-      either _ _ _ (either _ _ _ (opened-stays h e (heard-primary h byte odd flag not255)) k) (complain-stays h 7)))
-      (λ a. complain-stays h 3)
+  module _ (z : isSelected (s .link .phase) ≡ true) where
+    -- a slot is opened for a primary
+    opened-stays : (h : Header) → isPrimary (streamOf h) (h .byte3) ≡ true → isThere (Named (h .system)) (s .device .received) ≡ false → (at : ℕ)
+        → DeviceStays s (device.told 30 (withReceived (s .device) (set (s .device .received) at (slotOf (h .system) (streamOf h) (h .byte3)))))
+    opened-stays h p a at =
+        let none = none-there (Named (h .system)) (s .device .received) (k .device .received .size) a in
+        record {
+          kept =
+              record {
+                link = k .link;
+                device = device-received-opened (k .device) at (h .system) (streamOf h) (h .byte3) p none;
+                shut = shut-selected (s .link .phase) _ z;
+                test = k .test;
+              };
+        }
 
-  data-stays : (h : Header) (text : List ℕ) → h .byte3 < 2 ^ 8 → Stays (dataWhen s h text)
-  unfolding dataWhen dataOf
-  data-stays h text byte =
-      by-pick Stays _ _ _
-      (λ e.
-      either _ _ _
-      (by-pick Stays _ _ _ (λ a. secondary-stays h) (λ odd. primary-stays h text e byte odd))
-      (complain-stays h 1))
-      (λ e. k)
+    data-stays : (h : Header) (text : List ℕ) (a : Acted) → h .byte3 < 2 ^ 8 → Ends (s .device) n h text a → DeviceStays s a
+    data-stays h text a byte (drops p) = same-device
+    data-stays h text a byte (complains p q) = takes
+    data-stays h text a byte (closes p q) = own-freed _
+    data-stays h text a byte (aborts p q) = same-device
+    data-stays h text a byte (opens g w u room) = opened-stays h (heard-primary h byte (g .primary .odd) (g .flag) (g .not-255)) u _
+    data-stays h text a byte (hears g w) = same-device
 
-  kind-stays : (r : Received) (text : List ℕ) → Fits (onReceived r) → Stays (kindOf s r text)
-  unfolding kindOf selectOf deselectOf linktestedOf separatedOf
-  kind-stays (Reject h) text fits = rejected-stays h
-  kind-stays (OtherPType h) text fits = k
-  kind-stays (OtherSType h) text fits = k
-  kind-stays (SelectReq h) text fits = either _ _ _ k (kept-selected k)
-  kind-stays (SelectRsp h) text fits = k
-  kind-stays (DeselectReq h) text fits = either _ _ _ (either _ _ _ k (kept-deselected k)) k
-  kind-stays (DeselectRsp h) text fits = k
-  kind-stays (LinktestReq h) text fits = k
-  kind-stays (LinktestRsp h) text fits = either _ _ _ (kept-untested k) k
-  kind-stays (SeparateReq h) text fits = either _ _ _ (kept-deselected k) k
-  kind-stays (Data h) text fits = data-stays h text (fits h refl)
+    send-stays : (w : Bool) (m f : ℕ) → isPrimary m f ≡ true → DeviceStays s (device.sendOf (s .device) n w m f)
+    unfolding device.sendOf
+    send-stays w m f p =
+        device-either _ _ _
+        (device-either _ _ _
+        (record {
+          kept =
+              record {
+                link = kept-numbered;
+                device = device-own-opened (k .device) _ n m f p (fresh-unnamed k);
+                shut = shut-selected (s .link .phase) _ z;
+                test = test-opened (k .test) (k .device .own) _ n m f (fresh-not-held k);
+              };
+        })
+        same-device)
+        takes
 
-  -- ---- wishes
+  replied-stays : (i f : ℕ) (t : Text) → DeviceStays s (device.repliedOf (s .device) i f t)
+  unfolding device.repliedOf
+  replied-stays i f t =
+      device-either _ _ _
+      (record {
+        kept =
+            record {
+              link = k .link;
+              device = device-received-freed (k .device) _;
+              shut = shut-received-freed (k .shut) (k .device .received) _;
+              test = k .test;
+            };
+      })
+      same-device
 
-  send-stays : (w : Bool) (m f : ℕ) → selected s ≡ true → isPrimary m f ≡ true → Stays (sendOf s w m f)
-  unfolding sendOf selected
-  send-stays w m f e p = either _ _ _ (either _ _ _ (kept-own-opened k e _ m f p) k) (kept-moved k)
+  flag-stays : (m : ℕ) (b : Bool) → 1 ≤ m → DeviceStays s (device.flagOf (s .device) m b)
+  unfolding device.flagOf
+  flag-stays m b h = record { kept = record { link = k .link; device = device-flag (k .device) m b h; shut = shut-flag (k .shut) m b; test = k .test } }
 
-  linktest-stays : Stays (linktestOf s)
-  unfolding linktestOf connected
-  linktest-stays = by-pick Stays _ _ _ (λ c. either _ _ _ k (kept-tested k c)) (λ c. k)
+  t3-stays : (i : ℕ) → DeviceStays s (device.t3Of (s .device) n i)
+  unfolding device.t3Of
+  t3-stays i =
+      device-either _ _ _
+      (record {
+        kept =
+            record {
+              link = kept-numbered;
+              device = device-own-freed (k .device) _;
+              shut = shut-own-freed (k .shut) (k .device .own) _;
+              test = test-freed (k .test) (k .device .own) _;
+            };
+      })
+      same-device
 
-  connect-stays : Stays (connectOf s)
-  unfolding connectOf connected
-  connect-stays = by-pick Stays _ _ _ (λ c. k) (λ c. kept-connected k c)
+  -- ---- every row, and every event
 
-  flag-stays : (m : ℕ) (b : Bool) → Stays (flagOf s m b)
-  unfolding flagOf
-  flag-stays m b = by-pick Stays _ _ _ (λ some. either _ _ _ (kept-flag k m b (leb-true 1 m some)) k) (λ none. k)
+  link-stays : (e : Event) (x : Linked) → LinkRow s e x → LinkStays s x
+  unfolding link.rejecting link.rejectedOf link.selectReqOf link.deselectReqOf link.linktestReqOf link.linktestRspOf link.separateReqOf link.t6Of link.t7Of
+  link-stays e x (rejecting-row q h reason) = same-link
+  link-stays e x (rejected-row h) = link-either _ _ _ untests same-link
+  link-stays e x (select-req-row h) = link-either _ _ _ same-link selects
+  link-stays e x (deselect-req-row h) = link-either _ _ _ (link-either _ _ _ same-link (leaves deselected)) same-link
+  link-stays e x (linktest-req-row h) = same-link
+  link-stays e x (linktest-rsp-row h) = link-either _ _ _ untests same-link
+  link-stays e x (separate-req-row h) = link-either _ _ _ (leaves deselected) same-link
+  link-stays e x connect-row = connect-stays
+  link-stays e x disconnect-row = disconnect-stays
+  link-stays e x (linktest-row c) = linktest-stays c
+  link-stays e x (separate-row z) = separate-stays
+  link-stays e x t6-row = link-either _ _ _ disconnect-stays same-link
+  link-stays e x t7-row = link-either _ _ _ same-link t8-stays
+  link-stays e x t8-row = t8-stays
 
-  wish-stays : (w : Wish) (text : List ℕ) → Stays (wishOf s w text)
-  unfolding wishOf disconnectOf primaryWishOf replyOf repliedOf separateOf
-  wish-stays Connect text = connect-stays
-  wish-stays Disconnect text = either _ _ _ (kept-gone k) k
-  wish-stays (Flag m b) text = flag-stays m b
-  wish-stays (Primary w m f) text =
-      either _ _ _ (by-pick Stays _ _ _ (λ e. either _ _ _ (by-pick Stays _ _ _ (λ p. send-stays w m f e p) (λ p. k)) k) (λ e. k)) k
-  wish-stays (Reply n) text = either _ _ _ (either _ _ _ (either _ _ _ (either _ _ _ (kept-received-closed k _) k) k) k) k
-  wish-stays (Abort n) text = either _ _ _ (either _ _ _ (either _ _ _ (kept-received-closed k _) k) k) k
-  wish-stays Linktest text = linktest-stays
-  wish-stays Separate text = either _ _ _ (either _ _ _ (kept-deselected (kept-moved k)) k) k
+  device-stays : (e : Event) (text : List ℕ) (a : Acted) → Fits e → DeviceRow s text e a → DeviceStays s a
+  unfolding device.replyOf device.abortOf
+  device-stays e text a fits (rejected-own-row h) = rejected-stays h
+  device-stays e text a fits (data-row z h) = data-stays z h text a (fits h refl) (data-ends (s .device) n h text)
+  device-stays e text a fits (flag-row m b p) = flag-stays m b p
+  device-stays e text a fits (send-row z w m f p) = send-stays z w m f p
+  device-stays e text a fits (reply-row z i) = replied-stays i _ _
+  device-stays e text a fits (abort-row z i) = replied-stays i _ _
+  device-stays e text a fits (t3-row i) = t3-stays i
 
-  -- ---- timers
-
-  timer-stays : (t : Timer) → Stays (timerOf s t)
-  unfolding timerOf t3Of t6Of t7Of t8Of
-  timer-stays (T3 n) = either _ _ _ (kept-own-closed (kept-moved k) _) k
-  timer-stays T6 = either _ _ _ (kept-gone k) k
-  timer-stays T7 = either _ _ _ k (either _ _ _ (kept-gone k) k)
-  timer-stays T8 = either _ _ _ (kept-gone k) k
-
-  -- ---- every event
-
-  event-stays : (e : Event) (text : List ℕ) → Fits e → Stays (eventOf s e text)
-  unfolding eventOf cameOf
-  event-stays (onTimer t) text fits = timer-stays t
-  event-stays (onWish w) text fits = wish-stays w text
-  event-stays (onReceived r) text fits = either _ _ _ (kind-stays r text fits) k
+  stays : (e : Event) (text : List ℕ) (r : Stepped) → Fits e → Step s text e r → Kept (r .session)
+  stays e text r fits (by-link ok p row) = link-stays e _ row .kept
+  stays e text r fits (by-device ok row) = device-stays e text _ fits row .kept
+  stays e text r fits (stops z g) = k
 
   pub step-stays : (e : Event) (text : List ℕ) → Fits e → Kept (stepOf s e text .session)
-  unfolding stepOf
-  step-stays e text fits = either _ _ _ (event-stays e text fits) k
+  step-stays e text fits = stays e text (stepOf s e text) fits (step s e text)

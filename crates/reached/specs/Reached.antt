@@ -12,9 +12,9 @@ use Rattle.slots.specs.declared.Slot.{Slot}
 use Rattle.message.specs.declared.Received.the-variants.{Data}
 use Rattle.state.specs.State.{fresh}
 use Rattle.state.specs.declared.Session.{Session}
-use Rattle.table.specs.Table.{stepOf}
-use Rattle.table.specs.declared.Event.{Event}
-use Rattle.table.specs.declared.Event.the-variants.{Received as onReceived}
+use Rattle.session.specs.Table.{stepOf}
+use Rattle.session.specs.declared.Event.{Event}
+use Rattle.session.specs.declared.Event.the-variants.{Received as onReceived}
 
 -- an event, and the text that comes with it
 pub record Happened : Type 0 where
@@ -53,6 +53,7 @@ pub record OneEach (s : Session) : Type 0 where
   pub fresh-free : isHeld (s .device .own) (s .link .linktest) (fresh s) ≡ false
   -- no two open own messages share system bytes
   pub own : Apart (s .device .own)
-  pub test : s .link .linktest .running ≡ true → (i : ℕ) → i < 32 → getD (s .device .own) i free .taken ≡ true → getD (s .device .own) i free .system ≡ s .link .linktest .system → ⊥
+  pub test : s .link .linktest .running ≡ true → (i : ℕ) → i < 32 → getD (s .device .own) i free .taken ≡ true
+      → getD (s .device .own) i free .system ≡ s .link .linktest .system → ⊥
   -- no two open received primaries do
   pub received : Apart (s .device .received)

@@ -2,15 +2,17 @@ use bytes::scan;
 use hex::Said;
 use libc::STDIN_FILENO;
 use libc::STDOUT_FILENO;
-use message::Send;
+use session::Counted;
+use session::Device;
+use session::Event;
+use session::Link;
+use session::Phase;
+use session::Send;
+use session::Session;
+use session::Timer;
+use session::Wish;
 use slots::Linktest;
 use slots::Slot;
-use state::Phase;
-use state::Session;
-use table::Event;
-use table::Timer;
-use table::Wish;
-use wire::Counted;
 
 // ---- fields out
 
@@ -94,7 +96,7 @@ fn state_fields(s: Session) {
 
 fn sent_fields(m: Send, text: &[u8]) {
     let mut out = [0u8; 32768];
-    match message::write_message(m, text, &mut out) {
+    match session::write_message(m, text, &mut out) {
         Counted::Is(n) => if 0 < n {
             if n <= out.len() {
                 put(b"\tsent");
@@ -132,7 +134,7 @@ fn make(s: Session, b: &[u8]) -> Session {
     if b.len() < 2 {
         return bad(s);
     }
-    let made = state::new_session(records::half_at(b, 0));
+    let made = session::new_session(records::half_at(b, 0));
     let next = made.session;
     put(b"made");
     decimal(made.number as usize);
@@ -148,7 +150,7 @@ fn receive(s: Session, b: &[u8]) -> Session {
     }
     event(
         s,
-        Event::Received(message::received_of(frame::header_of(records::ten_in(b)))),
+        Event::Received(session::received_of(frame::header_of(records::ten_in(b)))),
         &b[10..],
     )
 }
@@ -203,7 +205,7 @@ fn timer(s: Session, b: &[u8]) -> Session {
 
 fn changed(s: Session) -> Session {
     put(b"state");
-    if listed::allows_state(s) {
+    if allowed::allows_state(s) {
         put(b"\tallowed");
     } else {
         put(b"\tbroken");
@@ -213,12 +215,23 @@ fn changed(s: Session) -> Session {
     s
 }
 
+fn with_link(s: Session, link: Link) -> Session {
+    let device = s.device;
+    Session { link, device }
+}
+
+fn with_device(s: Session, device: Device) -> Session {
+    let link = s.link;
+    Session { link, device }
+}
+
 // number (4)
 fn number(s: Session, b: &[u8]) -> Session {
     if b.len() < 4 {
         return bad(s);
     }
-    changed(state::with_next(s, records::word_at(b, 0)))
+    let link = s.link;
+    changed(with_link(s, state::with_next(link, records::word_at(b, 0))))
 }
 
 // phase (1)
@@ -231,7 +244,8 @@ fn phase(s: Session, b: &[u8]) -> Session {
         1 => Phase::NotSelected,
         _ => Phase::Selected,
     };
-    changed(state::with_phase(s, p))
+    let link = s.link;
+    changed(with_link(s, state::with_phase(link, p)))
 }
 
 // running (1), system bytes (4)
@@ -243,7 +257,8 @@ fn linktest(s: Session, b: &[u8]) -> Session {
         running: records::byte_at(b, 0) == 1,
         system: records::word_at(b, 1),
     };
-    changed(state::with_test(s, test))
+    let link = s.link;
+    changed(with_link(s, state::with_test(link, test)))
 }
 
 // taken (1), system bytes (4), stream (1), function (1), behind which (1) and place (1)
@@ -266,9 +281,12 @@ fn slot(s: Session, b: &[u8]) -> Session {
     let received = d.received;
     let own = d.own;
     if records::byte_at(b, 0) == 0 {
-        changed(state::with_received(s, slots::with_slot(received, place, x)))
+        changed(with_device(
+            s,
+            state::with_received(d, slots::with_slot(received, place, x)),
+        ))
     } else {
-        changed(state::with_own(s, slots::with_slot(own, place, x)))
+        changed(with_device(s, state::with_own(d, slots::with_slot(own, place, x))))
     }
 }
 
@@ -277,7 +295,9 @@ fn flag(s: Session, b: &[u8]) -> Session {
     if b.len() < 2 {
         return bad(s);
     }
-    changed(state::with_flag(s, records::byte_at(b, 0), records::byte_at(b, 1) == 1))
+    let d = s.device;
+    let flag = records::byte_at(b, 1) == 1;
+    changed(with_device(s, state::with_flag(d, records::byte_at(b, 0), flag)))
 }
 
 fn record(s: Session, letter: u8, b: &[u8]) -> Session {
@@ -320,7 +340,7 @@ fn line(s: Session, l: &[u8]) -> Session {
 }
 
 fn lines(input: &[u8]) {
-    let made = state::new_session(0);
+    let made = session::new_session(0);
     let mut s = made.session;
     let mut at: usize = 0;
     while at < input.len() {

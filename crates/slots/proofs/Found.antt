@@ -1,91 +1,38 @@
--- Laws of the search: the slot that it comes to is the first that passes, and where it comes to none no slot does.
-use Prim.Native.Nat.{ℕ, zero, suc, _+_, _≤_, _<_}
-use mathlib.Core.List.{List, [], _∷_}
-use mathlib.Core.Bool.{Bool, true, false, false≢true, cond}
-use mathlib.Core.Path.{_≡_, refl, ap, sym, _∙_}
-use native.Mathlib.Nat.{not-suc-le-zero, le-of-suc-le-suc}
+-- Laws of the search among slots, beside those of any search: a slot that is free, taken or named, and slots of which none is taken.
+use Prim.Native.Nat.{ℕ, _≤_, _<_}
+use mathlib.Core.List.{List}
+use mathlib.Core.Bool.{true, false, not}
+use mathlib.Core.Path.{_≡_, refl, ap}
 use native.Mathlib.Decide.{decLt}
-use native.Mathlib.Numerals.{add-one}
 use native.Mathlib.Omega.{arith}
-use borrow.Author.Tests.{not-true, eq-eqb, eqb-true, ne-eqb}
-use lib.Dec.{eqb, ltb}
-use lib.ListN.{length, getD, drop, set, drop-of-length-le}
-use lib.Seq.{drop-cons, set-out}
+use borrow.Author.Tests.{not-true, eq-eqb, eqb-true, ne-eqb, lt-ltb, le-ltb, lt-leb, le-leb, ltb-false}
+use lib.Dec.{eqb, ltb, leb}
+use lib.ListN.{length, getD}
+use Rattle.wire.specs.Search.{firstAt}
 use Rattle.wire.proofs.Choice.{both}
+use Rattle.wire.proofs.Search.{first-most, first-passes, first-least}
 use Rattle.slots.specs.Slots.{free, slotOf, noSlots, passes, foundAt, isThere}
 use Rattle.slots.specs.declared.Slot.{Slot}
 use Rattle.slots.specs.declared.Query.{Query}
 use Rattle.slots.specs.declared.Query.the-variants.{Free, Taken, Named}
 
--- ---- from slot to slot
+-- ---- a search that found a slot, or none
 
-module _ (q : Query) (l : List Slot) (i : ℕ) where
-  pub found-here : i < length l → passes q (getD l i free) ≡ true → foundAt q (drop i l) ≡ 0
-  unfolding foundAt
-  found-here h e = rw (drop-cons l i free h, e)
+pub there : (q : Query) (l : List Slot) (at : ℕ) → at ≡ foundAt q l → at < 32 → isThere q l ≡ true
+there q l at e h = rw (← e) (lt-ltb at 32 h)
 
-  pub found-next : i < length l → passes q (getD l i free) ≡ false → i + foundAt q (drop i l) ≡ (i + 1) + foundAt q (drop (i + 1) l)
-  unfolding foundAt
-  found-next h e = rw (drop-cons l i free h, e, add-one) (omega arith)
+pub absent : (q : Query) (l : List Slot) (at : ℕ) → at ≡ foundAt q l → 32 ≤ at → isThere q l ≡ false
+absent q l at e h = rw (← e) (le-ltb at 32 h)
 
-  pub found-end : length l ≤ i → foundAt q (drop i l) ≡ 0
-  unfolding foundAt
-  found-end h = rw (drop-of-length-le l h)
+pub none-found : (q : Query) (l : List Slot) (at : ℕ) → at ≡ foundAt q l → leb 32 at ≡ not (isThere q l)
+none-found q l at e = rw (← e) (go (decLt at 32))
+  where
+    go : Dec (at < 32) → leb 32 at ≡ not (ltb at 32)
+    go (yes h) = rw (lt-ltb at 32 h, lt-leb 32 at h)
+    go (no h) = rw (le-ltb at 32 (omega arith), le-leb 32 at (omega arith))
 
--- ---- the first that passes
-
-most-step : (b : Bool) (k n : ℕ) → k ≤ n → cond b 0 (suc k) ≤ suc n
-most-step true k n h = omega arith
-most-step false k n h = omega arith
-
-pub found-most : (q : Query) (l : List Slot) → foundAt q l ≤ length l
-unfolding foundAt
-found-most q [] = omega arith
-found-most q (s ∷ l) = most-step (passes q s) (foundAt q l) (length l) (found-most q l)
-
-module _ (q : Query) (s : Slot) (l : List Slot) where
-  passes-step : (b : Bool) → passes q s ≡ b → cond b 0 (suc (foundAt q l)) < suc (length l)
-      → (foundAt q l < length l → passes q (getD l (foundAt q l) free) ≡ true)
-      → passes q (getD (s ∷ l) (cond b 0 (suc (foundAt q l))) free) ≡ true
-  passes-step true e h f = e
-  passes-step false e h f = f (le-of-suc-le-suc h)
-
-  before-step : (b : Bool) (i : ℕ) → passes q s ≡ b → i < cond b 0 (suc (foundAt q l))
-      → ((j : ℕ) → j < foundAt q l → passes q (getD l j free) ≡ false)
-      → passes q (getD (s ∷ l) i free) ≡ false
-  before-step true i e h f = absurd (not-suc-le-zero h)
-  before-step false zero e h f = e
-  before-step false (suc i) e h f = f i (le-of-suc-le-suc h)
-
-pub found-passes : (q : Query) (l : List Slot) → foundAt q l < length l → passes q (getD l (foundAt q l) free) ≡ true
-unfolding foundAt
-found-passes q [] h = absurd (not-suc-le-zero h)
-found-passes q (s ∷ l) h = passes-step q s l (passes q s) refl h (λ k. found-passes q l k)
-
-pub found-before : (q : Query) (l : List Slot) (i : ℕ) → i < foundAt q l → passes q (getD l i free) ≡ false
-unfolding foundAt
-found-before q [] i h = absurd (not-suc-le-zero h)
-found-before q (s ∷ l) i h = before-step q s l (passes q s) i refl h (λ j k. found-before q l j k)
-
-module _ (q : Query) (l : List Slot) where
-  pub found-least : (i : ℕ) → passes q (getD l i free) ≡ true → foundAt q l ≤ i
-  found-least i e = go (decLt i (foundAt q l))
-    where
-      go : Dec (i < foundAt q l) → foundAt q l ≤ i
-      go (yes h) = absurd (false≢true (sym (found-before q l i h) ∙ e))
-      go (no h) = omega arith
-
-  -- ---- none
-
-  pub none-by : ((i : ℕ) → i < length l → passes q (getD l i free) ≡ false) → foundAt q l ≡ length l
-  none-by f = go (decLt (foundAt q l) (length l))
-    where
-      go : Dec (foundAt q l < length l) → foundAt q l ≡ length l
-      go (yes h) = absurd (false≢true (sym (f (foundAt q l) h) ∙ found-passes q l h))
-      go (no h) = omega (arith, found-most q l)
-
-  pub none-at : foundAt q l ≡ length l → (i : ℕ) → i < length l → passes q (getD l i free) ≡ false
-  none-at e i h = found-before q l i (omega arith)
+pub none-there : (q : Query) (l : List Slot) → length l ≡ 32 → isThere q l ≡ false → foundAt q l ≡ 32
+none-there q l size e = omega (arith, first-most (passes q) l, ltb-false (foundAt q l) 32 e)
 
 -- ---- a slot that is free, and one that is named
 
@@ -115,46 +62,10 @@ unfolding passes
 taken-first n l = go (decLt (foundAt (Named n) l) (length l))
   where
     go : Dec (foundAt (Named n) l < length l) → foundAt Taken l ≤ foundAt (Named n) l
-    go (yes h) = found-least Taken l (foundAt (Named n) l) (named-taken n (getD l (foundAt (Named n) l) free) (found-passes (Named n) l h))
-    go (no h) = omega (arith, found-most Taken l, found-most (Named n) l)
-
--- ---- another slot is stored
-
-module _ (q : Query) (x : Slot) (e : passes q x ≡ false) where
-  first-step : (b : Bool) (n : ℕ) → (0 ≡ cond b 0 (suc n) → ⊥) → suc n ≡ cond b 0 (suc n)
-  first-step true n h = absurd (h refl)
-  first-step false n h = refl
-
-  later-step : (b : Bool) (at m n : ℕ) → (suc at ≡ cond b 0 (suc n) → ⊥) → ((at ≡ n → ⊥) → m ≡ n) → cond b 0 (suc m) ≡ cond b 0 (suc n)
-  later-step true at m n h f = refl
-  later-step false at m n h f = ap suc (f (λ w. h (ap suc w)))
-
-  -- one that does not pass, stored elsewhere than at the place that is found
-  pub stored-other : (l : List Slot) (at : ℕ) → (at ≡ foundAt q l → ⊥) → foundAt q (set l at x) ≡ foundAt q l
-  unfolding foundAt
-  stored-other [] at h = refl
-  stored-other (s ∷ l) zero h = rw e (first-step (passes q s) (foundAt q l) h)
-  stored-other (s ∷ l) (suc at) h = later-step (passes q s) at (foundAt q (set l at x)) (foundAt q l) h (λ w. stored-other l at w)
-
-  pub stored-none : (l : List Slot) (at : ℕ) → foundAt q l ≡ length l → foundAt q (set l at x) ≡ length l
-  stored-none l at none = go (decLt at (length l))
-    where
-      go : Dec (at < length l) → foundAt q (set l at x) ≡ length l
-      go (yes h) = stored-other l at (λ w. omega arith) ∙ none
-      go (no h) = ap (foundAt q) (set-out l at x (omega arith)) ∙ none
-
--- one that passes, stored where none did
-module _ (q : Query) (x : Slot) (e : passes q x ≡ true) where
-  here-step : (b : Bool) (k m n at : ℕ) → cond b 0 (suc n) ≡ suc m → (n ≡ m → k ≡ at) → cond b 0 (suc k) ≡ suc at
-  here-step true k m n at none f = absurd (omega arith)
-  here-step false k m n at none f = ap suc (f (omega arith))
-
-  pub stored-here : (l : List Slot) (at : ℕ) → at < length l → foundAt q l ≡ length l → foundAt q (set l at x) ≡ at
-  unfolding foundAt
-  stored-here [] at h none = absurd (not-suc-le-zero h)
-  stored-here (s ∷ l) zero h none = rw e
-  stored-here (s ∷ l) (suc at) h none =
-      here-step (passes q s) (foundAt q (set l at x)) (length l) (foundAt q l) at none (λ w. stored-here l at (le-of-suc-le-suc h) w)
+    go (yes h) =
+        first-least (passes Taken) free l (foundAt (Named n) l)
+        (named-taken n (getD l (foundAt (Named n) l) free) (first-passes (passes (Named n)) free l h))
+    go (no h) = omega (arith, first-most (passes Taken) l, first-most (passes (Named n)) l)
 
 -- ---- no slot is taken
 
@@ -167,7 +78,7 @@ unfolding passes
 free-not-named n = refl
 
 pub no-slots-none : (q : Query) → passes q free ≡ false → foundAt q noSlots ≡ 32
-unfolding foundAt
+unfolding firstAt
 no-slots-none q e = rw e
 
 pub no-slots-there : (q : Query) → passes q free ≡ false → isThere q noSlots ≡ false

@@ -1,9 +1,10 @@
--- Tables of 32 slots, one for each open message, and the own linktest: what is looked for in them, and where it is found.
-use Prim.Native.Nat.{ℕ, zero, suc, _+_, _%_}
+-- Slots, 32 of a kind, one for each open message, and the own linktest: what is looked for in them, and where it is found.
+use Prim.Native.Nat.{ℕ, _+_, _%_}
 use mathlib.Core.Bool.{Bool, true, false, not, cond}
-use mathlib.Core.List.{List, [], _∷_}
+use mathlib.Core.List.{List}
 use lib.Dec.{eqb, leb, ltb}
 use lib.ListN.{replicate}
+use Rattle.wire.specs.Search.{firstAt}
 use Rattle.slots.specs.declared.Slot.{Slot}
 use Rattle.slots.specs.declared.Linktest.{Linktest}
 use Rattle.slots.specs.declared.Query.{Query}
@@ -38,10 +39,9 @@ passes (Answered n m f) s =
     (cond (eqb (s .system) n)
     (cond (eqb (s .stream) m) (cond (eqb f 0) true (eqb (s .function + 1) f)) false) false) false
 
--- the place of the first slot that is looked for; the table's length where there is none
-unfoldable pub foundAt : Query → List Slot → ℕ
-foundAt q [] = zero
-foundAt q (s ∷ l) = cond (passes q s) zero (suc (foundAt q l))
+-- the place of the first slot that is looked for; where there is none, how many there are, 32
+abbrev pub foundAt : Query → List Slot → ℕ
+foundAt q l = firstAt (passes q) l
 
 -- whether there is one
 abbrev pub isThere : Query → List Slot → Bool

@@ -16,7 +16,7 @@ pub struct Linktest {
     pub system: u32,
 }
 
-// What is looked for in a table: a free slot; a taken one; these system bytes; the primary that system bytes, stream and function answer.
+// What is looked for among slots: a free slot; a taken one; these system bytes; the primary that system bytes, stream and function answer.
 pub enum Query {
     Free,
     Taken,
@@ -46,7 +46,7 @@ pub fn slot_of(system: u32, stream: u8, function: u8) -> Slot
     }
 }
 
-// A table of free slots.
+// 32 free slots.
 pub fn no_slots() -> [Slot; 32]
     ensures { λ r. ⌜ r ≡ noSlots ⌝ }
 {
@@ -123,7 +123,7 @@ pub fn find(slots: [Slot; 32], q: Query) -> usize
     i
 }
 
-// A table with another slot at a place; as it is where it has no such place.
+// Another slot at a place; as they are where there is no such place.
 pub fn with_slot(slots: [Slot; 32], at: usize, s: Slot) -> [Slot; 32]
     ensures { λ r. ⌜ r ≡ set slots at s ⌝ }
 {

@@ -1,15 +1,18 @@
--- The session's state, as it is made, and its parts changed one at a time: nothing else changes.
+-- The session's state, as it is made, and its two halves, the link and the device, changed a part at a time: nothing else changes.
 use Prim.Native.Nat.{ℕ}
 use mathlib.Core.Bool.{Bool, true, false, cond}
 use mathlib.Core.List.{List}
 use lib.Dec.{leb}
 use lib.ListN.{set, replicate}
-use Rattle.slots.specs.Slots.{free, noSlots, noTest}
+use Rattle.slots.specs.Slots.{free, noSlots, noTest, isThere}
 use Rattle.fresh.specs.Fresh.{oneMore, freshOf}
 use Rattle.slots.specs.declared.Slot.{Slot}
 use Rattle.slots.specs.declared.Linktest.{Linktest}
+use Rattle.slots.specs.declared.Query.the-variants.{Taken}
 use Rattle.state.specs.declared.Phase.{Phase}
 use Rattle.state.specs.declared.Phase.the-variants.{NotConnected, NotSelected, Selected}
+use Rattle.state.specs.declared.Link.{Link}
+use Rattle.state.specs.declared.Device.{Device}
 use Rattle.state.specs.declared.Session.{Session}
 use Rattle.state.specs.declared.Made.{Made}
 
@@ -25,6 +28,12 @@ sessionOf id =
 unfoldable pub madeOf : ℕ → Made
 madeOf id = record { number = cond (leb id 32767) 0 28; session = sessionOf id }
 
+-- the fresh number, held by no own slot nor the linktest
+abbrev pub fresh : Session → ℕ
+fresh s = freshOf (s .device .own) (s .link .linktest) (s .link .next)
+
+-- ---- the link
+
 abbrev pub isConnected : Phase → Bool
 isConnected NotConnected = false
 isConnected NotSelected = true
@@ -35,56 +44,51 @@ isSelected NotConnected = false
 isSelected NotSelected = false
 isSelected Selected = true
 
-unfoldable pub connected : Session → Bool
-connected s = isConnected (s .link .phase)
+abbrev pub connected : Link → Bool
+connected l = isConnected (l .phase)
 
-unfoldable pub selected : Session → Bool
-selected s = isSelected (s .link .phase)
+abbrev pub selected : Link → Bool
+selected l = isSelected (l .phase)
 
--- ---- one part changed
+abbrev pub withPhase : Link → Phase → Link
+withPhase l p = record { phase = p; linktest = l .linktest; next = l .next }
 
-abbrev pub withPhase : Session → Phase → Session
-withPhase s p = record { link = record { phase = p; linktest = s .link .linktest; next = s .link .next }; device = s .device }
+abbrev pub withTest : Link → Linktest → Link
+withTest l t = record { phase = l .phase; linktest = t; next = l .next }
 
-abbrev pub withTest : Session → Linktest → Session
-withTest s t = record { link = record { phase = s .link .phase; linktest = t; next = s .link .next }; device = s .device }
+abbrev pub withNext : Link → ℕ → Link
+withNext l n = record { phase = l .phase; linktest = l .linktest; next = n }
 
-abbrev pub withNext : Session → ℕ → Session
-withNext s n = record { link = record { phase = s .link .phase; linktest = s .link .linktest; next = n }; device = s .device }
+-- a fresh number is taken: the next own number is one more
+abbrev pub numbered : Link → ℕ → Link
+numbered l n = withNext l (oneMore n)
 
-abbrev pub withReceived : Session → List Slot → Session
-withReceived s l = record { link = s .link; device = record { id = s .device .id; flags = s .device .flags; received = l; own = s .device .own } }
+-- not connected, the linktest emptied; the next own number stays
+abbrev pub gone : Link → Link
+gone l = withTest (withPhase l NotConnected) noTest
 
-abbrev pub withOwn : Session → List Slot → Session
-withOwn s l = record { link = s .link; device = record { id = s .device .id; flags = s .device .flags; received = s .device .received; own = l } }
+-- ---- the device
 
-abbrev pub withFlag : Session → ℕ → Bool → Session
-withFlag s m b = record { link = s .link; device = record { id = s .device .id; flags = set (s .device .flags) m b; received = s .device .received; own = s .device .own } }
+abbrev pub withReceived : Device → List Slot → Device
+withReceived d l = record { id = d .id; flags = d .flags; received = l; own = d .own }
 
--- ---- several
+abbrev pub withOwn : Device → List Slot → Device
+withOwn d l = record { id = d .id; flags = d .flags; received = d .received; own = l }
+
+abbrev pub withFlag : Device → ℕ → Bool → Device
+withFlag d m b = record { id = d .id; flags = set (d .flags) m b; received = d .received; own = d .own }
 
 -- the slot at a place freed
-abbrev pub receivedFreed : Session → ℕ → Session
-receivedFreed s at = withReceived s (set (s .device .received) at free)
+abbrev pub receivedFreed : Device → ℕ → Device
+receivedFreed d at = withReceived d (set (d .received) at free)
 
-abbrev pub ownFreed : Session → ℕ → Session
-ownFreed s at = withOwn s (set (s .device .own) at free)
+abbrev pub ownFreed : Device → ℕ → Device
+ownFreed d at = withOwn d (set (d .own) at free)
 
 -- the data slots emptied
-abbrev pub emptied : Session → Session
-emptied s = withOwn (withReceived s noSlots) noSlots
+abbrev pub emptied : Device → Device
+emptied d = withOwn (withReceived d noSlots) noSlots
 
--- selected becomes not selected, the data slots emptied
-abbrev pub deselected : Session → Session
-deselected s = emptied (withPhase s NotSelected)
-
--- not connected, slots and linktest emptied; the next own number stays
-abbrev pub gone : Session → Session
-gone s = withTest (emptied (withPhase s NotConnected)) noTest
-
--- the fresh number, held by no own slot nor the linktest; the next own number is then one more
-abbrev pub fresh : Session → ℕ
-fresh s = freshOf (s .device .own) (s .link .linktest) (s .link .next)
-
-abbrev pub numbered : Session → ℕ → Session
-numbered s n = withNext s (oneMore n)
+-- any received slot open
+abbrev pub receivedOpen : Device → Bool
+receivedOpen d = isThere Taken (d .received)

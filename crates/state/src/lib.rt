@@ -1,6 +1,8 @@
 ghost use mathlib.Core.Path.{_≡_};
-ghost use Rattle.state.specs.State.{sessionOf, madeOf, connected, selected, withPhase, withTest, withNext, withReceived, withOwn, withFlag, receivedFreed, ownFreed, emptied, deselected, gone, fresh, numbered};
+ghost use Rattle.state.specs.State.{sessionOf, madeOf, fresh, connected, selected, withPhase, withTest, withNext, numbered, gone};
+ghost use Rattle.state.specs.State.{withReceived, withOwn, withFlag, receivedFreed, ownFreed, emptied, receivedOpen};
 use slots::Linktest;
+use slots::Query;
 use slots::Slot;
 
 pub enum Phase {
@@ -68,142 +70,7 @@ pub fn new_session(id: u16) -> Made
     }
 }
 
-pub fn is_connected(s: Session) -> bool
-    ensures { λ r. ⌜ r ≡ connected s ⌝ }
-{
-    let link = s.link;
-    let p = link.phase;
-    match p {
-        Phase::NotConnected => false,
-        Phase::NotSelected => true,
-        Phase::Selected => true,
-    }
-}
-
-pub fn is_selected(s: Session) -> bool
-    ensures { λ r. ⌜ r ≡ selected s ⌝ }
-{
-    let link = s.link;
-    let p = link.phase;
-    match p {
-        Phase::NotConnected => false,
-        Phase::NotSelected => false,
-        Phase::Selected => true,
-    }
-}
-
-// ---- one part of a state changed, and nothing else
-
-pub fn with_phase(s: Session, phase: Phase) -> Session
-    ensures { λ r. ⌜ r ≡ withPhase s phase ⌝ }
-{
-    let link = s.link;
-    let linktest = link.linktest;
-    let device = s.device;
-    Session {
-        link: Link {
-            phase,
-            linktest,
-            next: link.next,
-        },
-        device,
-    }
-}
-
-pub fn with_test(s: Session, test: Linktest) -> Session
-    ensures { λ r. ⌜ r ≡ withTest s test ⌝ }
-{
-    let mut link = s.link;
-    link.linktest = test;
-    let mut t = s;
-    t.link = link;
-    t
-}
-
-pub fn with_next(s: Session, n: u32) -> Session
-    ensures { λ r. ⌜ r ≡ withNext s n ⌝ }
-{
-    let mut t = s;
-    t.link.next = n;
-    t
-}
-
-pub fn with_received(s: Session, l: [Slot; 32]) -> Session
-    ensures { λ r. ⌜ r ≡ withReceived s l ⌝ }
-{
-    let mut d = s.device;
-    d.received = l;
-    let mut t = s;
-    t.device = d;
-    t
-}
-
-pub fn with_own(s: Session, l: [Slot; 32]) -> Session
-    ensures { λ r. ⌜ r ≡ withOwn s l ⌝ }
-{
-    let mut d = s.device;
-    d.own = l;
-    let mut t = s;
-    t.device = d;
-    t
-}
-
-// As it is where there is no such flag.
-pub fn with_flag(s: Session, m: u8, b: bool) -> Session
-    ensures { λ r. ⌜ r ≡ withFlag s m b ⌝ }
-{
-    if 127 < m {
-        return s;
-    }
-    let mut d = s.device;
-    d.flags[m as usize] = b;
-    let mut t = s;
-    t.device = d;
-    t
-}
-
-// The slot at a place freed; as it is where there is no such slot.
-pub fn free_received(s: Session, at: usize) -> Session
-    ensures { λ r. ⌜ r ≡ receivedFreed s at ⌝ }
-{
-    let d = s.device;
-    let received = d.received;
-    with_received(s, slots::with_slot(received, at, slots::free_slot()))
-}
-
-pub fn free_own(s: Session, at: usize) -> Session
-    ensures { λ r. ⌜ r ≡ ownFreed s at ⌝ }
-{
-    let d = s.device;
-    let own = d.own;
-    with_own(s, slots::with_slot(own, at, slots::free_slot()))
-}
-
-// The data slots emptied.
-fn empty_slots(s: Session) -> Session
-    ensures { λ r. ⌜ r ≡ emptied s ⌝ }
-{
-    let l = slots::no_slots();
-    with_own(with_received(s, l), l)
-}
-
-// Selected becomes not selected, the data slots emptied.
-pub fn deselect(s: Session) -> Session
-    ensures { λ r. ⌜ r ≡ deselected s ⌝ }
-{
-    empty_slots(with_phase(s, Phase::NotSelected))
-}
-
-// Not connected, slots and linktest emptied.
-pub fn close(s: Session) -> Session
-    ensures { λ r. ⌜ r ≡ gone s ⌝ }
-{
-    with_test(
-        empty_slots(with_phase(s, Phase::NotConnected)),
-        slots::no_test(),
-    )
-}
-
+// The fresh number of a session: held by no own slot nor the linktest.
 pub fn fresh_number(s: Session) -> u32
     ensures { λ r. ⌜ r ≡ fresh s ⌝ }
 {
@@ -214,9 +81,128 @@ pub fn fresh_number(s: Session) -> u32
     fresh::fresh_number(own, test, link.next)
 }
 
-// A fresh number is taken: the next own number is one more.
-pub fn numbered_by(s: Session, n: u32) -> Session
-    ensures { λ r. ⌜ r ≡ numbered s n ⌝ }
+// ---- the link: its phase asked, and one part changed
+
+pub fn is_connected(l: Link) -> bool
+    ensures { λ r. ⌜ r ≡ connected l ⌝ }
 {
-    with_next(s, fresh::one_more(n))
+    let p = l.phase;
+    match p {
+        Phase::NotConnected => false,
+        Phase::NotSelected => true,
+        Phase::Selected => true,
+    }
+}
+
+pub fn is_selected(l: Link) -> bool
+    ensures { λ r. ⌜ r ≡ selected l ⌝ }
+{
+    let p = l.phase;
+    match p {
+        Phase::NotConnected => false,
+        Phase::NotSelected => false,
+        Phase::Selected => true,
+    }
+}
+
+pub fn with_phase(l: Link, phase: Phase) -> Link
+    ensures { λ r. ⌜ r ≡ withPhase l phase ⌝ }
+{
+    let linktest = l.linktest;
+    Link {
+        phase,
+        linktest,
+        next: l.next,
+    }
+}
+
+pub fn with_test(l: Link, test: Linktest) -> Link
+    ensures { λ r. ⌜ r ≡ withTest l test ⌝ }
+{
+    let mut k = l;
+    k.linktest = test;
+    k
+}
+
+pub fn with_next(l: Link, n: u32) -> Link
+    ensures { λ r. ⌜ r ≡ withNext l n ⌝ }
+{
+    let mut k = l;
+    k.next = n;
+    k
+}
+
+// A fresh number is taken: the next own number is one more.
+pub fn numbered_by(l: Link, n: u32) -> Link
+    ensures { λ r. ⌜ r ≡ numbered l n ⌝ }
+{
+    with_next(l, fresh::one_more(n))
+}
+
+// Not connected, the linktest emptied.
+pub fn close(l: Link) -> Link
+    ensures { λ r. ⌜ r ≡ gone l ⌝ }
+{
+    with_test(with_phase(l, Phase::NotConnected), slots::no_test())
+}
+
+// ---- the device: one part changed
+
+pub fn with_received(d: Device, l: [Slot; 32]) -> Device
+    ensures { λ r. ⌜ r ≡ withReceived d l ⌝ }
+{
+    let mut e = d;
+    e.received = l;
+    e
+}
+
+pub fn with_own(d: Device, l: [Slot; 32]) -> Device
+    ensures { λ r. ⌜ r ≡ withOwn d l ⌝ }
+{
+    let mut e = d;
+    e.own = l;
+    e
+}
+
+// As it is where there is no such flag.
+pub fn with_flag(d: Device, m: u8, b: bool) -> Device
+    ensures { λ r. ⌜ r ≡ withFlag d m b ⌝ }
+{
+    if 127 < m {
+        return d;
+    }
+    let mut e = d;
+    e.flags[m as usize] = b;
+    e
+}
+
+// The slot at a place freed; as it is where there is no such slot.
+pub fn free_received(d: Device, at: usize) -> Device
+    ensures { λ r. ⌜ r ≡ receivedFreed d at ⌝ }
+{
+    let received = d.received;
+    with_received(d, slots::with_slot(received, at, slots::free_slot()))
+}
+
+pub fn free_own(d: Device, at: usize) -> Device
+    ensures { λ r. ⌜ r ≡ ownFreed d at ⌝ }
+{
+    let own = d.own;
+    with_own(d, slots::with_slot(own, at, slots::free_slot()))
+}
+
+// The data slots emptied.
+pub fn empty_slots(d: Device) -> Device
+    ensures { λ r. ⌜ r ≡ emptied d ⌝ }
+{
+    let l = slots::no_slots();
+    with_own(with_received(d, l), l)
+}
+
+// Any received slot open.
+pub fn received_open(d: Device) -> bool
+    ensures { λ r. ⌜ r ≡ receivedOpen d ⌝ }
+{
+    let l = d.received;
+    slots::find(l, Query::Taken) < 32
 }

@@ -1,26 +1,8 @@
 -- One call a kind of event.
 use borrow.Author.Needs.{needs}
-use Rattle.table.specs.Table.{eventOf}
+use Rattle.session.specs.Table.{eventOf}
 use Rattle.session.proofs.on_event.Statement.{statement}
 use Rattle.session.proofs.on_event.Tie as tie
-
-enum-known-e : tie.Need-enum-known-e
-enum-known-e c = search needs
-
-timed-requires : tie.Need-timed-requires
-timed-requires c κs = search needs
-
-enum-known-e-2 : tie.Need-enum-known-e-2
-enum-known-e-2 c = search needs
-
-wished-requires : tie.Need-wished-requires
-wished-requires c κs = search needs
-
-enum-known-e-3 : tie.Need-enum-known-e-3
-enum-known-e-3 c = search needs
-
-came-requires : tie.Need-came-requires
-came-requires c κs = search needs
 
 returns : tie.Need-returns
 unfolding eventOf
@@ -28,8 +10,7 @@ returns c = rw (c .before .known-told .given .1, c .before .before .e .given .1)
 
 returns-2 : tie.Need-returns-2
 unfolding eventOf
-returns-2 c =
-    rw (c .before .known-told2 .given .1, c .before .before .e2 .given .1) (c .wished .ensures)
+returns-2 c = rw (c .before .known-told2 .given .1, c .before .before .e2 .given .1) (c .wished .ensures)
 
 returns-3 : tie.Need-returns-3
 unfolding eventOf
@@ -38,13 +19,5 @@ returns-3 c = rw (c .before .known-told3 .given .1, c .before .before .e3 .given
 pub on-event-spec : {M : Type 1} → statement M
 on-event-spec =
     tie.close
-    (tie.spec
-    enum-known-e
-    timed-requires
-    enum-known-e-2
-    wished-requires
-    enum-known-e-3
-    came-requires
-    returns
-    returns-2
-    returns-3)
+    (tie.spec (λ c. search needs) (λ c κs. search needs) (λ c. search needs) (λ c κs. search needs) (λ c. search needs) (λ c κs. search needs) returns
+    returns-2 returns-3)

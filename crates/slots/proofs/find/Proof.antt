@@ -4,8 +4,8 @@ use mathlib.Core.Path.{_≡_, sym, _∙_}
 use native.Mathlib.Omega.{arith}
 use borrow.Author.Needs.{needs}
 use lib.ListN.{drop}
-use Rattle.slots.specs.Slots.{foundAt}
-use Rattle.slots.proofs.Found.{found-here, found-next, found-end}
+use Rattle.slots.specs.Slots.{free, passes, foundAt}
+use Rattle.wire.proofs.Search.{first-here, first-next, first-end}
 use Rattle.slots.proofs.find.Statement.{statement}
 use Rattle.slots.proofs.find.Tie as tie
 
@@ -31,7 +31,7 @@ returns : tie.Need-returns Inv-loop μ-loop
 returns c =
     let l = c .before .before .before .before in
     let a = l .before .args in
-    omega (arith, found-here (a .q) (a .t1) (l .loop .i) (omega arith) (sym (c .before .is-match .ensures) ∙ c .if1 .taken))
+    omega (arith, first-here (passes (a .q)) free (a .t1) (l .loop .i) (omega arith) (sym (c .before .is-match .ensures) ∙ c .if1 .taken))
 
 add-i : tie.Need-add-i Inv-loop μ-loop
 add-i c = search needs
@@ -44,13 +44,13 @@ loop-again c =
     let l = c .before .before .before .before in
     let a = l .before .args in (
       search needs,
-      omega (arith, found-next (a .q) (a .t1) (l .loop .i) (omega arith) (sym (c .before .is-match .ensures) ∙ c .if1 .left)),
+      omega (arith, first-next (passes (a .q)) free (a .t1) (l .loop .i) (omega arith) (sym (c .before .is-match .ensures) ∙ c .if1 .left)),
     )
 
 returns-2 : tie.Need-returns-2 Inv-loop μ-loop
 returns-2 c =
     let a = c .before .before .args in
-    omega (arith, found-end (a .q) (a .t1) (c .before .loop .i) (omega arith))
+    omega (arith, first-end (passes (a .q)) (a .t1) (c .before .loop .i) (omega arith))
 
 pub find-spec : {M : Type 1} → statement M
 find-spec =

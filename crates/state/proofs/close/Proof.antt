@@ -6,9 +6,6 @@ use Rattle.state.proofs.close.Tie as tie
 with-phase-requires : tie.Need-with-phase-requires
 with-phase-requires c κs = search needs
 
-empty-slots-requires : tie.Need-empty-slots-requires
-empty-slots-requires c κs = search needs
-
 no-test-requires : tie.Need-no-test-requires
 no-test-requires c κs = search needs
 
@@ -16,9 +13,7 @@ with-test-requires : tie.Need-with-test-requires
 with-test-requires c κs = search needs
 
 returns : tie.Need-returns
-returns c = rw (c .with-test .ensures, c .before .no-test .ensures, c .before .before .empty-slots .ensures, c .before .before .before .with-phase .ensures)
+returns c = rw (c .with-test .ensures, c .before .no-test .ensures, c .before .before .with-phase .ensures)
 
 pub close-spec : {M : Type 1} → statement M
-close-spec =
-    tie.close
-    (tie.spec with-phase-requires empty-slots-requires no-test-requires with-test-requires returns)
+close-spec = tie.close (tie.spec with-phase-requires no-test-requires with-test-requires returns)

@@ -10,14 +10,14 @@ use Rattle.state.proofs.with_flag.Tie as tie
 returns : tie.Need-returns
 returns c =
     let a = c .before .args in
-    let n : length (a .s .device .flags) ≡ 128 = search needs in
-    rw (set-out (a .s .device .flags) (a .m) (a .b) (omega arith))
+    let n : length (a .d .flags) ≡ 128 = search needs in
+    rw (set-out (a .d .flags) (a .m) (a .b) (omega arith))
 
-element-write-d : tie.Need-element-write-d
-element-write-d c = search needs
+element-write-e : tie.Need-element-write-e
+element-write-e c = search needs
 
 returns-2 : tie.Need-returns-2
 returns-2 c = search needs
 
 pub with-flag-spec : {M : Type 1} → statement M
-with-flag-spec = tie.close (tie.spec returns element-write-d returns-2)
+with-flag-spec = tie.close (tie.spec returns element-write-e returns-2)

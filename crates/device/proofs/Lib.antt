@@ -1,0 +1,3 @@
+pub mod OfStream
+pub mod Rows
+pub mod Determined

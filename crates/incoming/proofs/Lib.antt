@@ -1,2 +1,0 @@
-pub mod OfStream
-pub mod Determined

@@ -1,4 +1,0 @@
-pub mod Allowed
-pub mod Listed
-pub mod Made
-pub mod Determined

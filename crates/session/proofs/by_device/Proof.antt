@@ -1,0 +1,15 @@
+-- The next own number is one more than n where the row took n.
+use borrow.Author.Needs.{needs}
+use Rattle.session.proofs.by_device.Statement.{statement}
+use Rattle.session.proofs.by_device.Tie as tie
+
+returns : tie.Need-returns
+returns c = rw (c .answer-of .ensures, c .before .numbered-by .ensures, c .before .before .if1 .taken)
+
+returns-2 : tie.Need-returns-2
+returns-2 c = rw (c .answer-of2 .ensures, c .before .if1 .left)
+
+pub by-device-spec : {M : Type 1} → statement M
+by-device-spec =
+    tie.close
+    (tie.spec (λ c κs. search needs) (λ c κs. search needs) returns (λ c κs. search needs) returns-2)

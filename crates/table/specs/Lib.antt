@@ -1,3 +1,0 @@
-pub mod Pick
-pub mod Answer
-pub mod Table
