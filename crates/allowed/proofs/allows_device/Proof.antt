@@ -9,9 +9,13 @@ use Rattle.allowed.specs.States.{allowsDevice}
 use Rattle.allowed.proofs.allows_device.Statement.{statement}
 use Rattle.allowed.proofs.allows_device.Tie as tie
 
+-- the call, from where its parts have been copied out
+abbrev start : tie.After-own → tie.Start
+start o = o .before .before .before
+
 returns : tie.Need-returns
 unfolding allowsDevice
-returns c = rw (lt-leb (c .before .before .before .before .before .args .d .id) 32767 (omega arith))
+returns c = rw (lt-leb (start (c .before .before) .args .d .id) 32767 (omega arith))
 
 array-read-if2 : tie.Need-array-read-if2
 array-read-if2 c = search needs
@@ -19,7 +23,7 @@ array-read-if2 c = search needs
 returns-2 : tie.Need-returns-2
 unfolding allowsDevice
 returns-2 c =
-    let d = c .before .before .before .before .before .before .args .d in
+    let d = start (c .before .before .before) .args .d in
     let e : getD (d .flags) 0 false ≡ true = c .if2 .taken in
     rw (le-leb (d .id) 32767 (omega arith), e)
 
@@ -33,7 +37,7 @@ returns-3 : tie.Need-returns-3
 unfolding allowsDevice
 returns-3 c =
     let f = c .before .before .before in
-    let d = f .before .before .before .before .before .before .args .d in
+    let d = start (f .before .before .before) .args .d in
     let e : getD (d .flags) 0 false ≡ false = f .if2 .left in
     rw (le-leb (d .id) 32767 (omega arith), e, ← c .before .before .allows-slots .ensures, c .before .if3 .taken) (c .allows-slots2 .ensures)
 
@@ -41,7 +45,7 @@ returns-4 : tie.Need-returns-4
 unfolding allowsDevice
 returns-4 c =
     let f = c .before .before in
-    let d = f .before .before .before .before .before .before .args .d in
+    let d = start (f .before .before .before) .args .d in
     let e : getD (d .flags) 0 false ≡ false = f .if2 .left in
     rw (le-leb (d .id) 32767 (omega arith), e, ← c .before .allows-slots .ensures, c .if3 .left)
 
