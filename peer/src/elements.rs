@@ -1,6 +1,6 @@
 //! Elements of a content.
 
-use crate::items::{content_byte_is_good, kind_of, Kind, Sort};
+use crate::items::{content_byte_is_good, kind_of, length_is_allowed, Kind, Sort};
 use std::ops::Range;
 
 /// Floats by their bits.
@@ -20,7 +20,7 @@ fn locate(code: u32, i: u32, content: &[u8]) -> Result<(&'static Kind, Range<usi
     let place = i as usize * width;
     if kind.sort == Sort::List {
         Err(9)
-    } else if !content.len().is_multiple_of(width) {
+    } else if !length_is_allowed(kind, content.len() as u64) {
         Err(3)
     } else if place >= content.len() {
         Err(8)
@@ -77,6 +77,28 @@ pub fn set(code: u32, i: u32, element: Element, content: &mut [u8]) -> Result<()
 #[cfg(test)]
 mod tests {
     use super::*;
+    use crate::items::C2;
+
+    #[test]
+    fn elements_of_p8() {
+        let bytes = [0x00, 0x7F, 0x80, 0xFF];
+        for length in 0..=bytes.len() {
+            for i in 0..=length {
+                let got = match length {
+                    1 => Err(3),
+                    _ if i == length => Err(8),
+                    _ => Ok(bytes[i]),
+                };
+                let mut content = bytes[..length].to_vec();
+                assert_eq!(get(C2, i as u32, &content), got.map(Element::Byte));
+                assert_eq!(set(C2, i as u32, Element::Byte(0xA5), &mut content), got.map(|_| ()));
+                assert_eq!(content.get(i).is_some_and(|byte| *byte == 0xA5), got.is_ok());
+            }
+        }
+        for element in [Element::Signed(1), Element::Unsigned(1), Element::F4(1), Element::F8(1)] {
+            assert_eq!([1, 2, 3].map(|length| set(C2, 0, element, &mut bytes[..length].to_vec())), [Err(3), Err(8), Err(8)]);
+        }
+    }
 
     #[test]
     fn signed_ends() {

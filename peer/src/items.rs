@@ -4,6 +4,7 @@ pub const LIST: u32 = 0o00;
 pub const B: u32 = 0o10;
 pub const BOOLEAN: u32 = 0o11;
 pub const A: u32 = 0o20;
+pub const C2: u32 = 0o22;
 
 pub const MOST_TEXT: usize = 32_000;
 pub const MOST_DEPTH: usize = 16;
@@ -30,7 +31,7 @@ const fn kind(name: &'static str, code: u32, width: u64, sort: Sort) -> Kind {
     Kind { name, code, width, sort }
 }
 
-pub const KINDS: [Kind; 15] = [
+pub const KINDS: [Kind; 16] = [
     kind("L", LIST, 1, Sort::List),
     kind("B", B, 1, Sort::Byte),
     kind("BOOLEAN", BOOLEAN, 1, Sort::Byte),
@@ -46,15 +47,24 @@ pub const KINDS: [Kind; 15] = [
     kind("I8", 0o30, 8, Sort::Signed),
     kind("F8", 0o40, 8, Sort::F8),
     kind("U8", 0o50, 8, Sort::Unsigned),
+    kind("C2", C2, 1, Sort::Byte),
 ];
+
+/// How many of the kinds are those of document 01, which come first: C2 has cases of its own.
+pub const KINDS_OF_01: usize = 15;
 
 pub fn kind_of(code: u32) -> Option<&'static Kind> {
     KINDS.iter().find(|kind| kind.code == code)
 }
 
+/// Whether a code allows a length: a multiple of the width, and for C2 none or at least two bytes.
+pub fn length_is_allowed(kind: &Kind, length: u64) -> bool {
+    length.is_multiple_of(kind.width) && (kind.code != C2 || length != 1)
+}
+
 /// 3 or 4, where an item of this kind and depth cannot have this length in any text.
 pub fn length_refusal(kind: &Kind, length: u64, depth: usize) -> Option<u32> {
-    if !length.is_multiple_of(kind.width) {
+    if !length_is_allowed(kind, length) {
         Some(3)
     } else if kind.code == LIST && length > 0 && depth == MOST_DEPTH {
         Some(4)

@@ -75,6 +75,19 @@ mod tests {
     }
 
     #[test]
+    fn items_of_p8() {
+        let head = |text: u8| [0, 0, 0, 10 + text, 0, 1, 6, 11, 0, 0, 0, 0, 0, 7];
+        let listed = |text: &[u8]| list(&[&head(text.len() as u8)[..], text].concat());
+        let message = |text: usize| format!("M\t1\t0\t0\t6\t11\t7\t{text}\n");
+        let members = [1, 3, 0x49, 0, 0x49, 4, 0, 1, 0x88, 0xC5, 0x4A, 0, 2, 0, 1];
+        let items = "I\t1\tL\t3\nI\t2\tC2\t0\nI\t2\tC2\t4\nI\t2\tC2\t2\n";
+        assert_eq!(listed(&members), format!("{}{items}E\t1\t29\n", message(15)));
+        assert_eq!(listed(&[0x49, 1, 0]), format!("{}X\t5\t15\n", message(3)));
+        assert_eq!(listed(&[0x49, 1, 0, 0]), format!("{}X\t3\t16\n", message(4)));
+        assert_eq!(listed(&[1, 2, 0x49, 1, 0, 0x41, 0]), format!("{}I\t1\tL\t2\nX\t3\t18\n", message(7)));
+    }
+
+    #[test]
     fn ends_that_are_not_clean() {
         let stream = [0, 0, 0, 0x0B, 0, 1, 0x81, 0x0D, 0, 0, 0, 0, 0, 7, 1];
         assert_eq!(list(&stream), "M\t1\t0\t0\t129\t13\t7\t1\nX\t5\t14\n");

@@ -325,7 +325,9 @@ impl State {
 #[cfg(test)]
 mod tests {
     use super::*;
-    use crate::items::{item_head, KINDS};
+    use crate::items::{item_head, C2, KINDS};
+    use crate::random::Random;
+    use crate::trees::{self, Manner};
 
     /// The size of the good item that the bytes begin with, by the definition of a whole one.
     fn whole_item(bytes: &[u8], depth: usize) -> Option<usize> {
@@ -340,8 +342,9 @@ mod tests {
             return (0..length).try_fold(place, |at, _| Some(at + whole_item(bytes.get(at..)?, depth + 1)?));
         }
         let content = bytes.get(place..place + length)?;
-        let good = (length as u64).is_multiple_of(kind.width) && (kind.name != "A" || content.iter().all(|byte| *byte < 128));
-        good.then_some(place + length)
+        let allowed = (length as u64).is_multiple_of(kind.width) && (kind.name != "C2" || length != 1);
+        let good = kind.name != "A" || content.iter().all(|byte| *byte < 128);
+        (allowed && good).then_some(place + length)
     }
 
     /// A start, the bytes that lead to it inside its item, and the depths of that item and of those awaited, in order.
@@ -355,7 +358,8 @@ mod tests {
         let (begun, before) = match next {
             Next::Format => (0, vec![]),
             Next::Length { code, left, value } => (1, item_head(code, 3, value << (8 * left))[..4 - left as usize].to_vec()),
-            Next::Content { code, left } => (1, item_head(code, 1, left)),
+            // Eight bytes have come, so that every code allows the length.
+            Next::Content { code, left } => (1, [item_head(code, 1, left + 8), vec![0; 8]].concat()),
         };
         let awaited = counts.iter().enumerate().rev().flat_map(|(below, count)| vec![below + 1; *count as usize]);
         let depths = vec![counts.len(); begun].into_iter().chain(awaited).collect();
@@ -386,7 +390,8 @@ mod tests {
     fn compare_all(next: Next, counts: &[u64], most: usize) {
         for size in 0..=most {
             // Lengths up to the size, zeros and the A format suffice to fill what can be filled.
-            let alphabet: Vec<u8> = (0..=size as u8).chain([0x41, 0x42, 0x43, 0x69, 0xB1, 0x25, 0xFD]).collect();
+            let alphabet: Vec<u8> =
+                (0..=size as u8).chain([0x41, 0x42, 0x43, 0x69, 0xB1, 0x25, 0xFD, 0x49, 0x4A, 0x4B]).collect();
             compare(&trial(next, counts), &alphabet, &mut Vec::new(), size);
         }
     }
@@ -418,9 +423,9 @@ mod tests {
 
     #[test]
     fn a_refused_prefix_is_never_good_again() {
-        let mut random = crate::random::Random::new(5);
-        for _ in 0..2_000 {
-            let text = crate::trees::text(&mut random, false);
+        let mut random = Random::new(5);
+        for case in 0..4_000 {
+            let text = trees::text(&mut random, Manner { lean: false, wide: case >= 2_000 });
             let mut bytes = text.clone();
             let place = random.below(bytes.len());
             bytes[place] ^= 1 << random.below(8);
@@ -448,5 +453,66 @@ mod tests {
         assert_eq!(answer(32, &[[1, 1].repeat(15), vec![1, 0]].concat()), (Status::Complete, 32));
         assert_eq!(answer(36, &[[1, 1].repeat(14), vec![1, 2, 1, 1]].concat()), (Status::Refused(4), 32));
         assert_eq!(answer(34, &[[1, 1].repeat(16), vec![1, 0]].concat()), (Status::Refused(5), 31));
+    }
+
+    #[test]
+    fn numbers_of_p8() {
+        let answer = |n, bytes: &[u8]| Reader::fresh(n).feed(bytes);
+        for (n, format) in [(3, 0x49), (4, 0x4A), (5, 0x4B)] {
+            assert_eq!(answer(n, &[format]), (Status::Refused(5), 1));
+        }
+        assert_eq!(answer(4, &[0x49, 1]), (Status::Refused(3), 2));
+        assert_eq!(answer(5, &[0x4A, 0, 1]), (Status::Refused(3), 3));
+        assert_eq!(answer(6, &[0x4B, 0, 0, 1]), (Status::Refused(3), 4));
+        assert_eq!(answer(2, &[0x49, 1]), (Status::Refused(3), 2));
+        assert_eq!(answer(2, &[0x49, 0]), (Status::Complete, 2));
+        assert_eq!(answer(3, &[0x4A, 0, 0]), (Status::Complete, 3));
+        assert_eq!(answer(4, &[0x49, 2, 0xFF, 0x80]), (Status::Complete, 4));
+        assert_eq!(answer(5, &[0x49, 3, 0, 1, 0xFF]), (Status::Complete, 5));
+        assert_eq!(answer(7, &[1, 2, 0x49, 1]), (Status::Refused(3), 4));
+        assert_eq!(answer(7, &[1, 2, 0x41, 0, 0x49]), (Status::Refused(5), 5));
+        assert_eq!(answer(258, &[0x4A, 1]), (Status::Refused(5), 2));
+        assert_eq!(answer(259, &[0x4A, 1, 0]), (Status::More, 3));
+        assert_eq!(answer(40, &[0x48]), (Status::Refused(2), 1));
+        assert_eq!(answer(40, &[0x4D]), (Status::Refused(1), 1));
+    }
+
+    /// The answer to a C2 of this length, with so many length bytes, as the only item of N bytes.
+    fn answer_to_c2(n: usize, length_bytes: usize, length: usize) -> (Status, usize) {
+        let last = 1 + length_bytes;
+        match n.checked_sub(last) {
+            None | Some(1) => (Status::Refused(5), 1),
+            Some(_) if length == 1 => (Status::Refused(3), last),
+            Some(left) if left != length => (Status::Refused(5), last),
+            Some(_) => (Status::Complete, n),
+        }
+    }
+
+    #[test]
+    fn a_c2_is_empty_or_at_least_two_bytes_long() {
+        for n in 2..=20 {
+            for length_bytes in 1..=3 {
+                for length in 0..=20 {
+                    let text = [item_head(C2, length_bytes, length as u64), vec![0xFF; length]].concat();
+                    assert_eq!(Reader::fresh(n).feed(&text), answer_to_c2(n, length_bytes, length), "{text:02X?} of {n}");
+                }
+            }
+        }
+    }
+
+    #[test]
+    fn a_state_in_a_c2_is_broken_where_one_byte_is_left_for_its_whole_content() {
+        let is_broken = |state: &State| matches!(state.reader(), Reader::Broken);
+        for left in 1..=3 {
+            let content = State { n: left, level: 1, phase: 2, code: C2, left, ..State::default() };
+            assert!(!is_broken(&content));
+            for behind in 0..=4 {
+                let last = State { n: left + behind, phase: 1, ..content };
+                assert_eq!(is_broken(&last), behind == 1);
+                let mut awaiting = last;
+                awaiting.counts[0] = 1;
+                assert_eq!(is_broken(&awaiting), behind < 2);
+            }
+        }
     }
 }

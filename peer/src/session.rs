@@ -758,4 +758,41 @@ mod tests {
             }
         }
     }
+
+    /// A data message of the device, as a frame.
+    fn data_frame(byte2: u8, byte3: u8, system: u8, text: &[u8]) -> Option<Vec<u8>> {
+        let head = [0, 0, 0, 10 + text.len() as u8, 0x7F, 0xFF, byte2, byte3, 0, 0, 0, 0, 0, system];
+        Some([&head[..], text].concat())
+    }
+
+    #[test]
+    fn a_text_with_a_c2_of_length_1_is_not_good() {
+        let texts: [(&[u8], u32); 9] = [
+            (&[0x49, 0], 0),
+            (&[0x49, 2, 0, 1], 0),
+            (&[0x49, 3, 0, 1, 0xFF], 0),
+            (&[0x4B, 0, 0, 2, 0, 1], 0),
+            (&[0x49, 1, 0], 5),
+            (&[0x4A, 0, 1, 0], 5),
+            (&[0x49, 1], 3),
+            (&[0x49, 1, 0, 0], 3),
+            (&[1, 2, 0x49, 1, 0, 0x41, 0], 3),
+        ];
+        for (bytes, number) in texts {
+            let text = bytes.to_vec();
+            let answer_to = |event: Event| {
+                let mut session = of(&[flag(1), Change::Next(7), received_slot(0, slot(40, 1, 1))]);
+                let answer = session.step(&event);
+                (answer.number, answer.sent)
+            };
+            let wished = |sent: Option<Vec<u8>>| (number, sent.filter(|_| number == 0));
+            let primary = Event::Primary { w: true, stream: 1, function: 3, text: text.clone() };
+            assert_eq!(answer_to(primary), wished(data_frame(0x81, 3, 7, bytes)));
+            let reply = Event::Reply { system: 40, text: text.clone() };
+            assert_eq!(answer_to(reply), wished(data_frame(1, 2, 40, bytes)));
+            let received = Event::Received { header: Header::data(MOST_DEVICE, false, 1, 1, 50), text };
+            let complaint = data_frame(9, 7, 7, &[0x21, 10, 0x7F, 0xFF, 1, 1, 0, 0, 0, 0, 0, 50]);
+            assert_eq!(answer_to(received), if number == 0 { (30, None) } else { (0, complaint) });
+        }
+    }
 }

@@ -99,8 +99,9 @@ pub fn write_lean(text: &[u8], numbers: usize, output: &mut [u8]) -> Result<usiz
 #[cfg(test)]
 mod tests {
     use super::*;
+    use crate::items::{A, C2};
     use crate::random::Random;
-    use crate::trees;
+    use crate::trees::{self, Manner};
 
     #[test]
     fn lean_forms_of_the_paper() {
@@ -109,10 +110,38 @@ mod tests {
     }
 
     #[test]
+    fn rows_and_texts_of_p8() {
+        let content = [0x00, 0x80, 0xFF];
+        let lists = |depth: usize| [LIST, 1, 0].repeat(depth);
+        assert_eq!(lean_text(&[C2, 0, 3], &content), Ok(vec![0x49, 0]));
+        assert_eq!(lean_text(&[C2, 2, 1], &content), Ok(vec![0x49, 2, 0x80, 0xFF]));
+        assert_eq!(lean_text(&[C2, 3, 0], &content), Ok(vec![0x49, 3, 0x00, 0x80, 0xFF]));
+        let refusals: [(&[u32], u32); 8] = [
+            (&[C2, 1, 0], 3),
+            (&[C2, 1, 9], 3),
+            (&[C2, 2, 2], 16),
+            (&[LIST, 2, 0, C2, 1, 0, A, 1, 1], 3),
+            (&[LIST, 2, 0, A, 1, 1, C2, 1, 0], 6),
+            (&[LIST, 2, 0, C2, 1, 0, 0o23, 0, 0], 3),
+            (&[lists(15), vec![C2, 1, 0]].concat(), 3),
+            (&[lists(16), vec![C2, 1, 0]].concat(), 4),
+        ];
+        for (numbers, number) in refusals {
+            assert_eq!(lean_text(numbers, &content), Err(number));
+        }
+        assert_eq!(part(C2, 1, 1, &content), Ok(&[0x80][..]));
+        assert_eq!(rows_of(&[0x4A, 0, 2, 0, 1]), Ok(vec![C2, 2, 3]));
+        assert_eq!(lean_form(&[0x4B, 0, 0, 2, 0, 1]), Ok(vec![0x49, 2, 0, 1]));
+        assert_eq!(lean_form(&[0x4A, 0, 0]), Ok(vec![0x49, 0]));
+        assert_eq!(lean_form(&[0x49, 1, 0]), Err(5));
+        assert_eq!(lean_form(&[0x49, 1, 0, 0]), Err(3));
+    }
+
+    #[test]
     fn lean_forms_are_good_and_their_own() {
         let mut random = Random::new(6);
-        for _ in 0..500 {
-            let text = trees::text(&mut random, false);
+        for case in 0..1_000 {
+            let text = trees::text(&mut random, Manner { lean: false, wide: case >= 500 });
             let lean = lean_form(&text).expect("a tree is good");
             assert!(lean.len() <= text.len());
             assert_eq!(lean_form(&lean), Ok(lean.clone()));

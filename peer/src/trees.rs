@@ -1,53 +1,67 @@
 //! Good texts of random trees.
 
-use crate::items::{fewest, item_head, kind_of, Kind, A, KINDS, LIST, MOST_DEPTH};
+use crate::items::{fewest, item_head, kind_of, length_is_allowed, Kind, A, C2, KINDS, KINDS_OF_01, LIST, MOST_DEPTH};
 use crate::random::Random;
+
+/// Whether each length has the fewest length bytes, and whether C2 is among the codes.
+#[derive(Clone, Copy)]
+pub struct Manner {
+    pub lean: bool,
+    pub wide: bool,
+}
 
 pub fn content(random: &mut Random, kind: &Kind, elements: usize) -> Vec<u8> {
     let mask = if kind.code == A { 0x7F } else { 0xFF };
     random.bytes(elements * kind.width as usize).iter().map(|byte| byte & mask).collect()
 }
 
-fn head(random: &mut Random, lean: bool, code: u32, length: u64) -> Vec<u8> {
+fn head(random: &mut Random, manner: Manner, code: u32, length: u64) -> Vec<u8> {
     let least = fewest(length);
-    let length_bytes = if lean || random.percent(70) { least } else { least + random.below(4 - least) };
+    let length_bytes = if manner.lean || random.percent(70) { least } else { least + random.below(4 - least) };
     item_head(code, length_bytes, length)
 }
 
-fn list(random: &mut Random, lean: bool, depth: usize, members: usize) -> Vec<u8> {
-    let mut bytes = head(random, lean, LIST, members as u64);
+fn list(random: &mut Random, manner: Manner, depth: usize, members: usize) -> Vec<u8> {
+    let mut bytes = head(random, manner, LIST, members as u64);
     for _ in 0..members {
-        bytes.extend(item(random, lean, depth + 1));
+        bytes.extend(item(random, manner, depth + 1));
     }
     bytes
 }
 
+/// A kind of document 01, or as often C2 where it is among the codes.
+fn some_kind(random: &mut Random, manner: Manner) -> &'static Kind {
+    let code = if manner.wide && random.percent(50) { C2 } else { KINDS[random.below(KINDS_OF_01)].code };
+    kind_of(code).expect("the kinds are known")
+}
+
 /// One item; the deeper, the fewer lists, and no list has members at the last depth.
-fn item(random: &mut Random, lean: bool, depth: usize) -> Vec<u8> {
+fn item(random: &mut Random, manner: Manner, depth: usize) -> Vec<u8> {
     if depth < MOST_DEPTH && random.percent(70 / depth.min(3)) {
         let members = random.below(5);
-        return list(random, lean, depth, members);
+        return list(random, manner, depth, members);
     }
-    let picked = random.below(KINDS.len());
-    let kind = &KINDS[picked];
+    let kind = some_kind(random, manner);
     if kind.code == LIST {
-        return list(random, lean, depth, 0);
+        return list(random, manner, depth, 0);
     }
     let most = random.pick(&[3, 3, 3, 3, 20]);
     let elements = random.below(most + 1);
-    let bytes = content(random, kind, elements);
-    [head(random, lean, kind.code, bytes.len() as u64), bytes].concat()
+    // A C2 of one byte, which no text may have, gets a second.
+    let more = usize::from(!length_is_allowed(kind, elements as u64 * kind.width));
+    let bytes = content(random, kind, elements + more);
+    [head(random, manner, kind.code, bytes.len() as u64), bytes].concat()
 }
 
-/// A good text, with length bytes as they come, or the fewest.
-pub fn text(random: &mut Random, lean: bool) -> Vec<u8> {
+/// A good text.
+pub fn text(random: &mut Random, manner: Manner) -> Vec<u8> {
     let depth = if random.percent(15) { 1 + random.below(MOST_DEPTH) } else { 1 };
-    nested(depth, &item(random, lean, depth))
+    nested(depth, &item(random, manner, depth))
 }
 
 /// A member of an outer list.
-pub fn member(random: &mut Random) -> Vec<u8> {
-    item(random, false, 2)
+pub fn member(random: &mut Random, manner: Manner) -> Vec<u8> {
+    item(random, manner, 2)
 }
 
 /// A good text of exactly this size, one A item.

@@ -13,7 +13,7 @@ use Rattle.wire.specs.Longest.{longest}
 use Rattle.wire.specs.Number.{AtMost}
 use Rattle.item.specs.Code.{L, kindOf}
 use Rattle.item.specs.Item.{Tree, good, lean, Content, Says, Good, Lean, meaningOf, leanOf}
-use Rattle.item.proofs.Codes.{plain-not-list}
+use Rattle.item.proofs.Codes.{of-plain, plain-not-list}
 use Rattle.item.proofs.Laws as laws
 use Rattle.item.proofs.Reading as reading
 use Rattle.wire.specs.Lists.{Each}
@@ -23,7 +23,7 @@ use Rattle.rows.specs.declared.Row.{Row}
 use Rattle.rows.proofs.Tables.{table-length, rows-table}
 use Rattle.rows.proofs.Trees.{tree-each, tree-text, tree-size, tree-spells, tree-once}
 use Rattle.rows.proofs.Walk.{text-walked, text-has, good-sound}
-use Rattle.text.specs.Text.{judgedOf, readOf, partNumber, partOf}
+use Rattle.text.specs.Text.{judgedOf, readOf, partNumberAs, partNumber, partOf}
 use Rattle.wire.specs.declared.Counted.{Counted}
 use Rattle.wire.specs.declared.Counted.the-variants.{Is, Refused}
 use Rattle.text.proofs.Judged.{judged-good, judged-range}
@@ -77,10 +77,9 @@ list-part r e = record { of-list = λ _. (rw e, rw e); of-other = λ n. absurd (
 plain-part : {t : List ℕ} (r : Row) → r .place + r .length ≤ length t → Content good (r .code) (partAt t r) → Part t r
 unfolding partNumber partOf
 plain-part {t} r within con =
-    record {
-      of-list = λ e. absurd (plain-not-list (r .code) (con .width) (con .known) e);
-      of-other = λ _. (rw (con .known, le-leb (r .place + r .length) (length t) within), rw (con .known, le-leb (r .place + r .length) (length t) within));
-    }
+    let inside : partNumberAs (kindOf (r .code)) true ≡ 0 = of-plain (λ k. partNumberAs k true ≡ 0) (kindOf (r .code)) (con .known) (λ _. refl) in
+    let number : partNumber t r ≡ 0 = rw (le-leb (r .place + r .length) (length t) within) inside in
+    record { of-list = λ e. absurd (plain-not-list (r .code) (con .known) e); of-other = λ _. (number, rw (eq-eqb (partNumber t r) 0 number)) }
 
 -- ---- what is read
 

@@ -1,4 +1,5 @@
--- Document 01's starred byte lines hold, in one statement: the checker computes each answer, and from the tree that the bytes spell the lean form written.
+-- Document 01's starred byte lines hold, in one statement, and ours of wide characters in another: the checker computes each answer, and from the tree
+-- that the bytes spell the lean form written.
 use Prim.Native.Nat.{ℕ}
 use mathlib.Core.Path.{_≡_, refl, ap, _∙_}
 use mathlib.Core.List.{List, [], _∷_, _++_}
@@ -6,7 +7,7 @@ use native.Mathlib.Omega.{arith}
 use lib.ListN.{length, drop, length-append}
 use Rattle.wire.specs.Lists.{Each}
 use Rattle.wire.specs.Number.{numberOf, bytesOf}
-use Rattle.item.specs.Code.{A, BOOLEAN, kindOf, allowed, largest}
+use Rattle.item.specs.Code.{A, BOOLEAN, kindOf, allowedBy, allowed, largest}
 use Rattle.item.specs.Item.{plain, one, good, fewest, Lengths, Content, header, Says, told, leanItem, leanOf}
 use Rattle.levels.specs.Levels.{total, leaving, stackOf, levelsOf, cleanOf}
 use Rattle.follow.specs.Fits.{fitsItems, fitsList, fitsPlain, fitsLengths}
@@ -16,7 +17,7 @@ use Rattle.reader.specs.Feed.{allowsPhase, allowsFrame, allowsEnd, allows, stat
 use Rattle.rows.specs.Rows.{itemRows}
 use Rattle.wire.specs.declared.Counted.{Counted}
 use Rattle.wire.specs.declared.Counted.the-variants.{Is}
-use Rattle.demand2.specs.Starred.{given, LeanRight, Right, table}
+use Rattle.demand2.specs.Starred.{given, LeanRight, Right, table, wideLines}
 use Rattle.demand2.proofs.Demand2.{in-one-call}
 
 -- an item of one content byte, under length bytes that say 1, and its lean form
@@ -38,7 +39,7 @@ one-byte c b ls l lens con e =
 
 -- THE STARRED LINES HOLD.
 pub starred : Each Right table
-unfolding numberOf bytesOf kindOf allowed largest fewest told leanItem total leaving stackOf levelsOf cleanOf fitsItems fitsList fitsPlain fitsLengths
+unfolding numberOf bytesOf kindOf allowedBy allowed largest fewest told leanItem total leaving stackOf levelsOf cleanOf fitsItems fitsList fitsPlain fitsLengths
     fresh known atFormat atList atPlain atLength atContent stepAt step allowsPhase allowsFrame allowsEnd allows status eat fedOf
 starred = (
   (refl, refl, tt),
@@ -78,7 +79,7 @@ starred = (
                                     says = refl;
                                     form = tt;
                                   })
-                                  (record { width = 1; known = refl; whole = refl; bytes = (omega arith, tt) })
+                                  (record { known = refl; whole = refl; bytes = (omega arith, tt) })
                                   refl,
                             ),
                             (
@@ -87,7 +88,7 @@ starred = (
                                 refl,
                                 one-byte BOOLEAN 0x07 (0x01 ∷ []) (0x25 ∷ 0x01 ∷ 0x01 ∷ [])
                                     (record { some = omega arith; few = omega arith; bytes = (omega arith, tt); says = refl; form = tt })
-                                    (record { width = 1; known = refl; whole = refl; bytes = (omega arith, tt) })
+                                    (record { known = refl; whole = refl; bytes = (omega arith, tt) })
                                     refl,
                               ),
                               tt,
@@ -105,4 +106,13 @@ starred = (
       ),
     ),
   ),
+)
+
+-- AND OURS OF WIDE CHARACTERS.
+pub wide-lines : Each Right wideLines
+unfolding kindOf allowedBy allowed largest total leaving stackOf levelsOf cleanOf fitsItems fitsList fitsPlain fitsLengths
+    fresh known atFormat atList atPlain atLength atContent stepAt step allowsPhase allowsFrame allowsEnd allows status eat fedOf
+wide-lines = (
+  (refl, refl, tt),
+  ((refl, refl, tt), ((refl, refl, tt), ((refl, refl, tt), ((refl, refl, tt), ((refl, refl, tt), ((refl, refl, tt), ((refl, refl, tt), tt))))))),
 )

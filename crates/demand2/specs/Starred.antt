@@ -1,4 +1,4 @@
--- Document 01's starred byte lines, as one table, and what is right of a line.
+-- Document 01's starred byte lines, as one table, lines of ours for document 02's wide characters, as another, and what is right of a line.
 use Prim.Native.Nat.{ℕ, _≤_}
 use mathlib.Core.List.{List, [], _∷_, _++_}
 use mathlib.Core.Path.{_≡_}
@@ -49,6 +49,19 @@ table =
     ∷ line 4 (0xFC ∷ []) (Refusal 1) 1
     ∷ leanLine 5 (0x43 ∷ 0x00 ∷ 0x00 ∷ 0x01 ∷ 0x41 ∷ []) (one (plain A (0x41 ∷ []))) (0x41 ∷ 0x01 ∷ 0x41 ∷ [])
     ∷ leanLine 3 (0x25 ∷ 0x01 ∷ 0x07 ∷ []) (one (plain BOOLEAN (0x07 ∷ []))) (0x25 ∷ 0x01 ∷ 0x01 ∷ [])
+    ∷ []
+
+-- a C2 of length 1 is refused with 3 at the last length byte, or with 5 earlier where no good text remains; of any other length it is good
+abbrev pub wideLines : List Line
+wideLines =
+    line 2 (0x49 ∷ 0x00 ∷ []) Complete 2
+    ∷ line 4 (0x49 ∷ 0x02 ∷ 0x00 ∷ 0xFF ∷ []) Complete 4
+    ∷ line 6 (0x4A ∷ 0x00 ∷ 0x03 ∷ 0x00 ∷ 0x01 ∷ 0x80 ∷ []) Complete 6
+    ∷ line 4 (0x49 ∷ 0x01 ∷ []) (Refusal 3) 2
+    ∷ line 3 (0x49 ∷ []) (Refusal 5) 1
+    ∷ line 4 (0x4A ∷ []) (Refusal 5) 1
+    ∷ line 6 (0x01 ∷ 0x02 ∷ 0x49 ∷ 0x01 ∷ []) (Refusal 3) 4
+    ∷ line 7 (0x01 ∷ 0x02 ∷ 0x49 ∷ 0x00 ∷ 0x49 ∷ []) (Refusal 5) 5
     ∷ []
 
 -- the bytes spell this tree, its lean form is the one given, and the call writes it

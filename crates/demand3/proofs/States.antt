@@ -9,7 +9,7 @@ use Rattle.wire.specs.Lists.{joined}
 use Rattle.wire.specs.Number.{AtMost}
 use Rattle.item.proofs.Codes.{plain-small, largest-le}
 use Rattle.levels.specs.Levels.{stackOf}
-use Rattle.follow.proofs.Follow.{Known, isList, isPlain}
+use Rattle.follow.proofs.Follow.{Known, aList, aPlain}
 use Rattle.follow.proofs.Grammar.{begin}
 use Rattle.reader.specs.State.{State, stateOf, readerOf, fresh}
 use Rattle.reader.specs.Step.{step}
@@ -43,8 +43,8 @@ status-answered n ps b = rw (reached-allowed n ps b)
 -- ---- what may follow is bytes
 
 code-small : (c : ℕ) → Known c → c < 64
-code-small c (isList e) = omega arith
-code-small c (isPlain w k) = omega (arith, plain-small c w k)
+code-small c (aList e) = omega arith
+code-small c (aPlain k) = omega (arith, plain-small c k)
 
 first-byte : (p : Phase) (st : List ℕ) (b : ℕ) (t : List ℕ) → LiveAt p st → RestAt p st (b ∷ t) → b ≤ 255
 first-byte Format [] b t at w = absurd (omega (arith, ap length w))

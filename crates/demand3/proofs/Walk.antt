@@ -179,7 +179,7 @@ mutual
       ∙ ap (taken (Format, suc m ∷ st)) (append-assoc (header c ls) x w)
       ∙ header-taken c (length x) m ls (x ++ w) st lens
       ∙ ap (λ (rs : List Role). formatByte ∷ lengthRoles c (suc (length st)) 0 ls ++ rs)
-      (plain-body c x w (m ∷ st) (plain-not-list c (con .width) (con .known)))
+      (plain-body c x w (m ∷ st) (plain-not-list c (con .known)))
       ∙ sym (append-assoc (formatByte ∷ lengthRoles c (suc (length st)) 0 ls) (map (λ (y : ℕ). contentByte) x) (taken (Format, leaving (m ∷ st)) w))
   item-taken (list is) m st u w (ls, inner, e, lens, all, deep) =
       ap (λ (y : List ℕ). taken (Format, suc m ∷ st) (y ++ w)) e

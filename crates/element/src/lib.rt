@@ -8,6 +8,7 @@ ghost use Rattle.wire.specs.Twos.{unsignedOf};
 ghost use Rattle.element.specs.Element.{sortOf, sortIn, tagOf, wide, f4Of, f8Of, placeOf, readAs, gotOf, bitsOr8, rawOf, setOf};
 ghost use Rattle.element.specs.Asked.{Readable};
 use item::Kind;
+use item::Sizes;
 use wire::Bits;
 use wire::Width;
 
@@ -130,13 +131,15 @@ enum Place {
     Refused(u32),
 }
 
-fn plain_place(code: u32, width: usize, size: usize, i: usize) -> Place
-    requires { ⌜ 0 < width ⌝ }
-    ensures { λ r. ⌜ r ≡ Rattle.element.specs.Element.plainPlace code width size i ⌝ }
+fn plain_place(s: Sizes, size: usize, i: usize) -> Place
+    requires { ⌜ 0 < s .width ⌝ }
+    ensures { λ r. ⌜ r ≡ Rattle.element.specs.Element.plainPlace s size i ⌝ }
 {
-    if item::is_allowed(code, size) {
+    let width = s.width;
+    if item::allows(s, size) {
         if i < size / width {
-            Place::At(i * width, width)
+            let at = i * width;
+            Place::At(at, width)
         } else {
             Place::Refused(8)
         }
@@ -151,7 +154,7 @@ fn place_of(code: u32, size: usize, i: usize) -> Place
     match item::kind_of(code) {
         Kind::Unknown => Place::Refused(1),
         Kind::List => Place::Refused(9),
-        Kind::Plain(width) => plain_place(code, width, size, i),
+        Kind::Plain(s) => plain_place(s, size, i),
     }
 }
 

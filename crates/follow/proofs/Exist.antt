@@ -1,10 +1,10 @@
 -- Wherever the tests hold something may follow: zero bytes, items of two bytes, and one longer item make up any number of bytes.
-use Prim.Native.Nat.{ℕ, zero, suc, _+_, _*_, _-_, _%_, _^_, _≤_, _<_}
+use Prim.Native.Nat.{ℕ, zero, suc, _+_, _*_, _-_, _^_, _≤_, _<_}
 use mathlib.Core.Path.{_≡_, refl, sym, ap, subst, _∙_}
 use mathlib.Core.Bool.{true, false, cond, not}
 use mathlib.Core.List.{List, [], _∷_, _++_, append-nil}
 use mathlib.Core.Logic.{_⊎_, inl, inr}
-use native.Mathlib.Nat.{mod-one, mod-eq-of-lt, pow-suc, le-mul-of-pos-right}
+use native.Mathlib.Nat.{mod-eq-of-lt, pow-suc, le-mul-of-pos-right}
 use native.Mathlib.Omega.{arith}
 use lib.Dec.{eqb, leb, ltb}
 use lib.ListN.{length, length-append, replicate, length-replicate}
@@ -13,12 +13,12 @@ use Rattle.wire.specs.Longest.{longest}
 use Rattle.wire.specs.Number.{numberOf, bytesOf, AtMost}
 use Rattle.wire.proofs.Choice.{both}
 use Rattle.wire.proofs.Numbers.{number-bytes, length-bytes, bytes-at-most, power-pos}
-use Rattle.item.specs.Code.{L, kindOf, allowed, largest}
-use Rattle.item.specs.Item.{Item, plain, none, more, good, Content, Spells}
-use Rattle.item.specs.declared.Kind.the-variants.{Plain}
+use Rattle.item.specs.Code.{L, kindOf, isPlain, allowed, largest}
+use Rattle.item.specs.Item.{Item, plain, none, more, good, Spells}
 use Rattle.item.proofs.Codes.{allowed-low, plain-not-list}
+use Rattle.item.proofs.Contents.{bytes-content}
 use Rattle.levels.specs.Levels.{total}
-use Rattle.follow.proofs.Follow.{Run, Awaited, AfterContent, AfterLength, AfterLengths, Known, isList, isPlain}
+use Rattle.follow.proofs.Follow.{Run, Awaited, AfterContent, AfterLength, AfterLengths, Known, aList, aPlain}
 use Rattle.follow.specs.Fits.{fitsItems, fitsList, fitsPlain, fitsLengths}
 use Rattle.follow.proofs.Grammar.{grown, run-none, content-in, length-in}
 use Rattle.follow.proofs.Sizes.{same?, Fill, fits-fill, FitList, FitPlain}
@@ -30,23 +30,24 @@ zeros-at-most : (n m : ℕ) → AtMost m (replicate n 0)
 zeros-at-most zero m = tt
 zeros-at-most (suc n) m = (omega arith, zeros-at-most n m)
 
--- any bytes are a content of B
-bytes-content : (x : List ℕ) → AtMost 0xFF x → Content good 0o10 x
-unfolding kindOf allowed largest
-bytes-content x a = record { width = 1; known = refl; whole = eq-eqb (length x % 1) 0 (mod-one (length x)); bytes = a }
-
 -- an item of two bytes, and one of any more
 two : (d : ℕ) → d ≤ 16 → Spells good d (plain 0o10 []) (33 ∷ 0 ∷ [])
 unfolding numberOf
-two d h = (0 ∷ [], refl, record { some = omega arith; few = omega arith; bytes = (omega arith, tt); says = refl; form = tt }, bytes-content [] tt, h)
+two d h = (0 ∷ [], refl, record { some = omega arith; few = omega arith; bytes = (omega arith, tt); says = refl; form = tt }, bytes-content good [] tt, h)
 
 three : (d k : ℕ) → k ≤ 65535 → d ≤ 16 → Spells good d (plain 0o10 (replicate k 0)) (34 ∷ bytesOf 2 k ++ replicate k 0)
 three d k h deep =
     let l = length-bytes 2 k in (
       bytesOf 2 k,
       rw l,
-      record { some = rw l (omega arith); few = rw l (omega arith); bytes = bytes-at-most 2 k; says = number-bytes 2 k ∙ mod-eq-of-lt (omega arith) ∙ sym (zeros-length k); form = tt },
-      bytes-content (replicate k 0) (zeros-at-most k 0xFF),
+      record {
+        some = rw l (omega arith);
+        few = rw l (omega arith);
+        bytes = bytes-at-most 2 k;
+        says = number-bytes 2 k ∙ mod-eq-of-lt (omega arith) ∙ sym (zeros-length k);
+        form = tt;
+      },
+      bytes-content good (replicate k 0) (zeros-at-most k 0xFF),
       deep,
     )
 
@@ -72,7 +73,8 @@ run-of d (suc (suc n)) k f m deep =
     ((33 ∷ 0 ∷ []) ++ u, (more (plain 0o10 []) is, ap suc c, (33 ∷ 0 ∷ [], u, refl, two d deep, s)), omega (arith, f .enough))
 
 -- bytes for the innermost level, and for those behind it
-two-parts : (n : ℕ) (st : List ℕ) (x y k : ℕ) → x + y ≡ k → (u : List ℕ) × Run (suc (length st)) n u × (length u ≡ x) → (v : List ℕ) × Awaited st v × (length v ≡ y)
+two-parts : (n : ℕ) (st : List ℕ) (x y k : ℕ) → x + y ≡ k → (u : List ℕ) × Run (suc (length st)) n u × (length u ≡ x)
+    → (v : List ℕ) × Awaited st v × (length v ≡ y)
     → (t : List ℕ) × Awaited (n ∷ st) t × (length t ≡ k)
 two-parts n st x y k e (u, s, q) (v, w, r) = (u ++ v, (u, v, refl, s, w), length-append u v ∙ omega arith)
 
@@ -164,12 +166,12 @@ module _ (st : List ℕ) (j v n : ℕ) (m : n ≤ longest) (deep : length st ≤
           (record { enough = f .enough e; none = λ q. absurd (z (omega (arith, le-mul-of-pos-right v (power-pos j)))) })
           (inr (omega arith)) (omega arith) (omega (arith, wide))
 
-module _ (st : List ℕ) (c w j v n : ℕ) (m : n ≤ longest) (deep : length st ≤ 16) (pos : 0 < j) (known : kindOf c ≡ Plain w) where
+module _ (st : List ℕ) (c j v n : ℕ) (m : n ≤ longest) (deep : length st ≤ 16) (pos : 0 < j) (known : isPlain (kindOf c) ≡ true) where
   plain-at : (x : ℕ) → j + x ≤ n → Fill (n - j - x) (total st) → allowed c x ≡ true → v * 256 ^ j ≤ x → x < v * 256 ^ j + 256 ^ j
       → (t : List ℕ) × AfterLengths st c j v t × (length t ≡ n)
   plain-at x room f whole lo hi =
       let (y, r, q) = content-of st c x (n - j) (omega arith) f (omega arith) deep in
-      let (t, k, p) = lengths-of st c j v x (n - j) lo hi (y, inr (record { width = w; known = known; whole = whole }, r), q) in
+      let (t, k, p) = lengths-of st c j v x (n - j) lo hi (y, inr (record { known = known; whole = whole }, r), q) in
       (t, k, p ∙ omega arith)
 
   pub lengths-plain-of : FitPlain c n (total st) j v → (t : List ℕ) × AfterLengths st c j v t × (length t ≡ n)
@@ -177,10 +179,11 @@ module _ (st : List ℕ) (c w j v n : ℕ) (m : n ≤ longest) (deep : length st
     where
       go : (total st ≡ 0) ⊎ (total st ≡ 0 → ⊥) → (t : List ℕ) × AfterLengths st c j v t × (length t ≡ n)
       go (inl z) =
-          plain-at (n - j) (omega (arith, f .room)) (record { enough = omega arith; none = λ _. omega arith }) (f .last z .1) (omega (arith, f .room)) (f .last z .0)
+          plain-at (n - j) (omega (arith, f .room)) (record { enough = omega arith; none = λ _. omega arith })
+          (f .last z .1) (omega (arith, f .room)) (f .last z .0)
       go (inr z) =
-          plain-at (v * 256 ^ j) (omega (arith, f .room)) (record { enough = omega (arith, f .room); none = λ e. absurd (z e) }) (allowed-low c w v j known pos)
-          (omega arith) (omega (arith, power-pos j))
+          plain-at (v * 256 ^ j) (omega (arith, f .room)) (record { enough = omega (arith, f .room); none = λ e. absurd (z e) })
+          (allowed-low c v j known pos) (omega arith) (omega (arith, power-pos j))
 
 -- the tests as facts
 pub list-fit : (d n m j v : ℕ) → fitsList d n m j v ≡ true → FitList d n m j v
@@ -233,9 +236,9 @@ plain-fit c n m j v e =
 pub lengths-exist : (st : List ℕ) (c j v n : ℕ) → n ≤ longest → length st ≤ 16 → 0 < j → Known c → fitsLengths c (length st) n (total st) j v ≡ true
     → (t : List ℕ) × AfterLengths st c j v t × (length t ≡ n)
 unfolding fitsLengths
-lengths-exist st c j v n m deep pos (isList z) e =
+lengths-exist st c j v n m deep pos (aList z) e =
     let f : fitsList (length st) n (total st) j v ≡ true = rw (eq-eqb c L z) at e in
     rw z (lengths-list-of st j v n m deep pos (list-fit (length st) n (total st) j v f))
-lengths-exist st c j v n m deep pos (isPlain w k) e =
-    let f : fitsPlain c n (total st) j v ≡ true = rw (ne-eqb c L (plain-not-list c w k)) at e in
-    lengths-plain-of st c w j v n m deep pos k (plain-fit c n (total st) j v f)
+lengths-exist st c j v n m deep pos (aPlain k) e =
+    let f : fitsPlain c n (total st) j v ≡ true = rw (ne-eqb c L (plain-not-list c k)) at e in
+    lengths-plain-of st c j v n m deep pos k (plain-fit c n (total st) j v f)

@@ -1,13 +1,13 @@
--- What may follow in a good text of which a part was read. The levels are counts of items still awaited, innermost first; an item at the innermost of them has the depth of their number.
+-- What may follow in a good text of which a part was read. The levels are counts of items still awaited, innermost first; an item at the innermost of
+-- them has the depth of their number.
 use Prim.Native.Nat.{ℕ, zero, suc, _+_, _*_, _≤_}
 use mathlib.Core.Bool.{true}
 use mathlib.Core.List.{List, [], _∷_, _++_}
 use mathlib.Core.Logic.{_⊎_}
 use mathlib.Core.Path.{_≡_}
 use lib.ListN.{length}
-use Rattle.item.specs.Code.{L, kindOf, allowed, largest}
+use Rattle.item.specs.Code.{L, kindOf, isPlain, allowed, largest}
 use Rattle.item.specs.Item.{Items, count, good, SpellsAll}
-use Rattle.item.specs.declared.Kind.the-variants.{Plain}
 
 -- u is n items at depth d, one behind the other
 abbrev pub Run : ℕ → ℕ → List ℕ → Type 0
@@ -25,8 +25,7 @@ AfterContent st c (suc l) [] = ⊥
 AfterContent st c (suc l) (b ∷ t) = (b ≤ largest c) × AfterContent st c l t
 
 pub record PlainLength (c v : ℕ) : Type 0 where
-  pub width : ℕ
-  pub known : kindOf c ≡ Plain width
+  pub known : isPlain (kindOf c) ≡ true
   pub whole : allowed c v ≡ true
 
 -- t follows a length of v: that many members, or that many content bytes
@@ -41,5 +40,5 @@ AfterLengths st c (suc j) v (b ∷ t) = (b ≤ 0xFF) × AfterLengths st c j (v *
 
 -- a code is L's, or that of plain items
 pub data Known (c : ℕ) : Type 0 where
-  isList : c ≡ L → Known c
-  isPlain : (w : ℕ) → kindOf c ≡ Plain w → Known c
+  aList : c ≡ L → Known c
+  aPlain : isPlain (kindOf c) ≡ true → Known c

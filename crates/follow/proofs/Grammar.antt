@@ -1,4 +1,5 @@
--- The next byte of what is awaited: where an item is awaited, the bytes go on with its format byte, its length bytes and its content or members, and then with what is awaited behind it.
+-- The next byte of what is awaited: where an item is awaited, the bytes go on with its format byte, its length bytes and its content or members, and
+-- then with what is awaited behind it.
 use Prim.Native.Nat.{ℕ, zero, suc, _+_, _*_, _^_, _≤_}
 use mathlib.Core.Path.{_≡_, refl, sym, ap, subst, _∙_}
 use mathlib.Core.List.{List, [], _∷_, _++_, append-assoc}
@@ -78,7 +79,7 @@ first st n b t u v e (none, z, s) k = absurd (omega arith)
 first st n b t u v e (more (plain c x) is, z, (u₁, u₂, e₁, (ls, e₂, lens, con, deep), s)) k =
     let q = cut b c t u v u₁ u₂ ls x e e₁ e₂ in
     let rest : Awaited (n ∷ st) (u₂ ++ v) = (u₂, v, refl, (is, suc-inj z, s), k) in
-    let this : PlainLength c (length x) = record { width = con .width; known = con .known; whole = con .whole } in
+    let this : PlainLength c (length x) = record { known = con .known; whole = con .whole } in
     record {
       code = c;
       lengths = length ls;
@@ -122,10 +123,11 @@ unbody st n c b t ls w e f some few bytes deep (inl (z, (body, rest, e₁, (ms, 
 unbody st n c b t ls w e f some few bytes deep (inr (p, k₁)) =
     let (x, rest, e₁, q, a, k) = content-out (n ∷ st) c (grown 0 ls) w k₁ in
     join st n (plain c x) (header c ls ++ x) rest (b ∷ t) (glue b c t ls w x rest f e e₁)
-    (ls, refl, said ls (length x) some few bytes q, record { width = p .width; known = p .known; whole = rw q (p .whole); bytes = a }, deep) k
+    (ls, refl, said ls (length x) some few bytes q, record { known = p .known; whole = rw q (p .whole); bytes = a }, deep) k
 
 -- a header and what may follow it are an item that was awaited
-pub unbegin : (st : List ℕ) (n c j b : ℕ) (t : List ℕ) → suc (length st) ≤ 16 → b ≡ c * 4 + j → 1 ≤ j → j ≤ 3 → AfterLengths (n ∷ st) c j 0 t → Awaited (suc n ∷ st) (b ∷ t)
+pub unbegin : (st : List ℕ) (n c j b : ℕ) (t : List ℕ) → suc (length st) ≤ 16 → b ≡ c * 4 + j → 1 ≤ j → j ≤ 3 → AfterLengths (n ∷ st) c j 0 t
+    → Awaited (suc n ∷ st) (b ∷ t)
 unbegin st n c j b t deep f some few k =
     let (ls, w, e, q, a, r) = length-out (n ∷ st) c j 0 t k in
     unbody st n c b t ls w e (rw q f) (rw q some) (rw q few) a deep r

@@ -145,7 +145,8 @@ list-need st j v t ls w e q a k =
       enough = λ s. omega (arith, f .enough, g .0);
     }
 
-plain-need : (st : List ℕ) (c j v : ℕ) (t ls w : List ℕ) → t ≡ ls ++ w → length ls ≡ j → AtMost 0xFF ls → PlainLength c (grown v ls) → AfterContent st c (grown v ls) w
+plain-need : (st : List ℕ) (c j v : ℕ) (t ls w : List ℕ) → t ≡ ls ++ w → length ls ≡ j → AtMost 0xFF ls → PlainLength c (grown v ls)
+    → AfterContent st c (grown v ls) w
     → FitPlain c (length t) (total st) j v
 plain-need st c j v t ls w e q a p k =
     let f = content-fill st c (grown v ls) w k in
@@ -162,14 +163,16 @@ plain-need st c j v t ls w e q a p k =
 pub lengths-list : (st : List ℕ) (j v : ℕ) (t : List ℕ) → AfterLengths st L j v t → FitList (length st) (length t) (total st) j v
 lengths-list st j v t k = go (length-out st L j v t k)
   where
-    go : (ls : List ℕ) × (w : List ℕ) × (t ≡ ls ++ w) × (length ls ≡ j) × AtMost 0xFF ls × AfterLength st L (grown v ls) w → FitList (length st) (length t) (total st) j v
+    go : (ls : List ℕ) × (w : List ℕ) × (t ≡ ls ++ w) × (length ls ≡ j) × AtMost 0xFF ls × AfterLength st L (grown v ls) w
+        → FitList (length st) (length t) (total st) j v
     go (ls, w, e, q, a, inl (z, r)) = list-need st j v t ls w e q a r
-    go (ls, w, e, q, a, inr (p, r)) = absurd (plain-not-list L (p .width) (p .known) refl)
+    go (ls, w, e, q, a, inr (p, r)) = absurd (plain-not-list L (p .known) refl)
 
 pub lengths-plain : (st : List ℕ) (c j v : ℕ) (t : List ℕ) → (c ≡ L → ⊥) → AfterLengths st c j v t → FitPlain c (length t) (total st) j v
 lengths-plain st c j v t h k = go (length-out st c j v t k)
   where
-    go : (ls : List ℕ) × (w : List ℕ) × (t ≡ ls ++ w) × (length ls ≡ j) × AtMost 0xFF ls × AfterLength st c (grown v ls) w → FitPlain c (length t) (total st) j v
+    go : (ls : List ℕ) × (w : List ℕ) × (t ≡ ls ++ w) × (length ls ≡ j) × AtMost 0xFF ls × AfterLength st c (grown v ls) w
+        → FitPlain c (length t) (total st) j v
     go (ls, w, e, q, a, inl (z, r)) = absurd (h z)
     go (ls, w, e, q, a, inr (p, r)) = plain-need st c j v t ls w e q a p r
 
@@ -178,5 +181,7 @@ unfolding fitsLengths
 lengths-fit st c j v n t q k = go (same? c L)
   where
     go : (c ≡ L) ⊎ (c ≡ L → ⊥) → fitsLengths c (length st) n (total st) j v ≡ true
-    go (inl z) = rw (eq-eqb c L z, ← q) (fit-list (length st) (length t) (total st) j v (lengths-list st j v t (subst (λ (x : ℕ). AfterLengths st x j v t) z k)))
+    go (inl z) =
+        let k′ = subst (λ (x : ℕ). AfterLengths st x j v t) z k in
+        rw (eq-eqb c L z, ← q) (fit-list (length st) (length t) (total st) j v (lengths-list st j v t k′))
     go (inr z) = rw (ne-eqb c L z, ← q) (fit-plain c (length t) (total st) j v (lengths-plain st c j v t z k))

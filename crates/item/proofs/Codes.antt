@@ -1,15 +1,17 @@
--- Laws of the table of codes: a rule that a computed test finds in every entry holds of every code, and a number that no entry has is unknown.
+-- Laws of the table of codes: a rule that a computed test finds in every entry holds of every code, a number that no entry has is unknown; and which
+-- lengths a code allows.
 use Prim.Native.Nat.{ℕ, zero, suc, _*_, _%_, _^_, _∣_, _<_, _≤_}
-use native.Mathlib.Nat.{pow-suc, dvd-of-mod-eq-zero, mod-eq-zero-of-dvd, dvd-mul-left-of-dvd}
+use native.Mathlib.Nat.{pow-suc, mod-one, zero-lt-suc, dvd-of-mod-eq-zero, mod-eq-zero-of-dvd, dvd-mul-left-of-dvd, le-of-dvd}
 use native.Mathlib.Omega.{arith}
-use mathlib.Core.Path.{_≡_, refl, sym, ap, subst, _∙_}
-use mathlib.Core.Bool.{Bool, true, false, cond, _&&_}
+use mathlib.Core.Path.{_≡_, refl, sym, subst}
+use mathlib.Core.Bool.{Bool, true, false, cond, not, _&&_, _||_}
 use mathlib.Core.List.{List, [], _∷_}
 use lib.Dec.{T, eqb, ltb, leb, eqb→eq, ltb→lt, leb→le}
-use borrow.Author.Tests.{eqb-true, eq-eqb, ne-eqb}
-use Rattle.item.specs.Code.{L, A, Code, coded, codes, found, kindOf, allowed, largest}
+use borrow.Author.Tests.{eqb-true, eq-eqb, ne-eqb, le-leb}
+use Rattle.item.specs.Code.{L, A, C2, sizes, Code, coded, codes, found, kindOf, isPlain, allowedBy, allowedIn, allowed, largest}
 use Rattle.item.specs.declared.Kind.{Kind}
 use Rattle.item.specs.declared.Kind.the-variants.{List as aList, Plain, Unknown}
+use Rattle.item.specs.declared.Sizes.{Sizes}
 use Rattle.item.proofs.Keys.{Off, isKeyOf, off-key}
 
 abbrev pub every : (Code → Bool) → List Code → Bool
@@ -51,65 +53,126 @@ found-none n arms (c ∷ cs) o t =
     let there : T (every (λ c. isKeyOf (c .number) arms) cs) = and-right (isKeyOf (c .number) arms) (every (λ c. isKeyOf (c .number) arms) cs) t in
     rw (ne-eqb n (c .number) (off-key n arms o (c .number) here)) (found-none n arms cs o there)
 
--- every width is 1 to 8
-abbrev wide : Kind → Bool
-wide aList = true
-wide (Plain w) = ltb 0 w && leb w 8
-wide Unknown = true
-
-pub plain-width : (c w : ℕ) → kindOf c ≡ Plain w → (0 < w) × (w ≤ 8)
+-- a rule of numbers and kinds that every entry keeps, and that an unknown code keeps, is kept by every code and its kind
+pub kept : (p : ℕ → Kind → Bool) (c : ℕ) → T (p c Unknown) → T (every (λ x. p (x .number) (x .kind)) codes) → T (p c (kindOf c))
 unfolding kindOf
-plain-width c w e =
-    let t : T (ltb 0 w && leb w 8) = subst (λ (k : Kind). T (wide k)) e (found-each (λ x. wide (x .kind)) c codes tt tt) in
-    (ltb→lt 0 w (and-left (ltb 0 w) (leb w 8) t), leb→le w 8 (and-right (ltb 0 w) (leb w 8) t))
+kept p c u t =
+    let f : T (p (found c codes .number) (found c codes .kind)) = found-each (λ x. p (x .number) (x .kind)) c codes u t in
+    subst (λ (n : ℕ). T (p n (found c codes .kind))) (found-number c codes) f
+
+-- what holds of plain kinds, whatever their sizes, holds of a kind that is plain
+pub of-plain : (P : Kind → Type 0) (k : Kind) → isPlain k ≡ true → ((s : Sizes) → P (Plain s)) → P k
+of-plain P aList p f = let z : _≡_ {A = ℕ} 0 1 = cc in absurd (omega arith)
+of-plain P (Plain s) p f = f s
+of-plain P Unknown p f = let z : _≡_ {A = ℕ} 0 1 = cc in absurd (omega arith)
 
 -- L is no code of plain items
-pub plain-not-list : (c w : ℕ) → kindOf c ≡ Plain w → c ≡ L → ⊥
+pub plain-not-list : (c : ℕ) → isPlain (kindOf c) ≡ true → c ≡ L → ⊥
 unfolding kindOf
-plain-not-list c w k e =
-    let p : kindOf L ≡ Plain w = ap kindOf (sym e) ∙ k in
-    let q : kindOf L ≡ aList = refl in
+plain-not-list c p e =
+    let q : isPlain (kindOf L) ≡ true = subst (λ (x : ℕ). isPlain (kindOf x) ≡ true) e p in
     let z : _≡_ {A = ℕ} 0 1 = cc in
     omega arith
 
 -- and no other code is a list's
 abbrev listed : ℕ → Kind → Bool
 listed n aList = eqb n L
-listed n (Plain w) = true
+listed n (Plain s) = true
 listed n Unknown = true
 
 pub list-code : (c : ℕ) → kindOf c ≡ aList → c ≡ L
-unfolding kindOf
-list-code c e =
-    let t = found-each (λ x. listed (x .number) (x .kind)) c codes tt tt in
-    eqb→eq c L (subst (λ (n : ℕ). T (eqb n L)) (found-number c codes) (subst (λ (k : Kind). T (listed (found c codes .number) k)) e t))
+list-code c e = eqb→eq c L (subst (λ (k : Kind). T (listed c k)) e (kept listed c tt tt))
 
--- a known code is below 63, so that a format byte is a byte with up to four length bytes too
+-- a code of plain items is below 63, so that a format byte is a byte with up to four length bytes too
 abbrev small : ℕ → Kind → Bool
-small n aList = ltb n 63
-small n (Plain w) = ltb n 63
-small n Unknown = true
+small n k = cond (isPlain k) (ltb n 63) true
 
-pub plain-small : (c w : ℕ) → kindOf c ≡ Plain w → c < 63
-unfolding kindOf
-plain-small c w e =
-    let t = found-each (λ x. small (x .number) (x .kind)) c codes tt tt in
-    ltb→lt c 63 (subst (λ (n : ℕ). T (ltb n 63)) (found-number c codes) (subst (λ (k : Kind). T (small (found c codes .number) k)) e t))
+pub plain-small : (c : ℕ) → isPlain (kindOf c) ≡ true → c < 63
+plain-small c p = ltb→lt c 63 (rw p at (kept small c tt tt))
 
--- every width divides 256, so that a length whose last byte is 00 is allowed
-abbrev divides : Kind → Bool
-divides aList = true
-divides (Plain w) = eqb (256 % w) 0
-divides Unknown = true
+-- ---- lengths
 
-pub allowed-low : (c w v j : ℕ) → kindOf c ≡ Plain w → 0 < j → allowed c (v * 256 ^ j) ≡ true
-unfolding allowed kindOf
-allowed-low c w v zero e h = absurd (omega arith)
-allowed-low c w v (suc j) e h =
-    let t : T (eqb (256 % w) 0) = subst (λ (k : Kind). T (divides k)) e (found-each (λ x. divides (x .kind)) c codes tt tt) in
-    let d : w ∣ 256 = dvd-of-mod-eq-zero w (eqb→eq (256 % w) 0 t) in
-    let m : (v * 256 ^ suc j) % w ≡ 0 = mod-eq-zero-of-dvd w (rw (pow-suc 256 j) (dvd-mul-left-of-dvd w (dvd-mul-left-of-dvd w d (256 ^ j)) v)) in
-    rw e (eq-eqb ((v * 256 ^ suc j) % w) 0 m)
+-- sizes that go into eight bytes: the width divides 8, and the least length is at most 8
+pub record InEight (s : Sizes) : Type 0 where
+  pub some : 0 < s .width
+  pub few : s .width ≤ 8
+  pub divides : s .width ∣ 8
+  pub least : s .least ≤ 8
+
+abbrev inEight : Kind → Bool
+inEight aList = true
+inEight (Plain s) = ltb 0 (s .width) && (eqb (8 % s .width) 0 && leb (s .least) 8)
+inEight Unknown = true
+
+in-eight : (s : Sizes) → T (inEight (Plain s)) → InEight s
+in-eight s t =
+    let u = and-right (ltb 0 (s .width)) _ t in
+    let d = dvd-of-mod-eq-zero (s .width) (eqb→eq (8 % s .width) 0 (and-left (eqb (8 % s .width) 0) _ u)) in
+    record {
+      some = ltb→lt 0 (s .width) (and-left (ltb 0 (s .width)) _ t);
+      few = le-of-dvd (zero-lt-suc 7) d;
+      divides = d;
+      least = leb→le (s .least) 8 (and-right (eqb (8 % s .width) 0) _ u);
+    }
+
+pub plain-sizes : (c : ℕ) (s : Sizes) → kindOf c ≡ Plain s → InEight s
+plain-sizes c s e = in-eight s (subst (λ (k : Kind). T (inEight k)) e (kept (λ _. inEight) c tt tt))
+
+eights : (s : Sizes) → InEight s → (n : ℕ) → allowedBy s (n * 8) ≡ true
+unfolding allowedBy
+eights s f n = rw (eq-eqb (n * 8 % s .width) 0 (mod-eq-zero-of-dvd (s .width) (dvd-mul-left-of-dvd (s .width) (f .divides) n))) (go n)
+  where
+    go : (n : ℕ) → (eqb (n * 8) 0 || leb (s .least) (n * 8)) ≡ true
+    go zero = refl
+    go (suc n) = rw (ne-eqb (suc n * 8) 0 (λ z. omega arith), le-leb (s .least) (suc n * 8) (omega (arith, f .least)))
+
+-- lengths of 0, 8, 16, .. bytes are allowed
+pub allowed-eights : (c n : ℕ) → isPlain (kindOf c) ≡ true → allowed c (n * 8) ≡ true
+unfolding allowed
+allowed-eights c n p =
+    of-plain (λ k. T (inEight k) → allowedIn k (n * 8) ≡ true) (kindOf c) p (λ s t. eights s (in-eight s t) n) (kept (λ _. inEight) c tt tt)
+
+-- so a length whose last byte is 00 is allowed
+pub allowed-low : (c v j : ℕ) → isPlain (kindOf c) ≡ true → 0 < j → allowed c (v * 256 ^ j) ≡ true
+allowed-low c v zero p h = absurd (omega arith)
+allowed-low c v (suc j) p h =
+    let e : v * 256 ^ suc j ≡ v * 256 ^ j * 32 * 8 = rw (pow-suc 256 j) (omega arith) in
+    rw e (allowed-eights c (v * 256 ^ j * 32) p)
+
+-- of every code but C2 the least length is the width
+abbrev ordinary : ℕ → Kind → Bool
+ordinary n aList = true
+ordinary n (Plain s) = eqb n C2 || eqb (s .least) (s .width)
+ordinary n Unknown = true
+
+multiples : (w n : ℕ) → allowedBy (sizes w w) n ≡ eqb (n % w) 0
+unfolding allowedBy
+multiples w n = go n (eqb (n % w) 0) refl
+  where
+    go : (n : ℕ) (b : Bool) → eqb (n % w) 0 ≡ b → (b && (eqb n 0 || leb w n)) ≡ b
+    go n false e = refl
+    go zero true e = refl
+    go (suc n) true e =
+        let d : w ∣ suc n = dvd-of-mod-eq-zero w (eqb-true (suc n % w) 0 e) in
+        rw (ne-eqb (suc n) 0 (λ z. omega arith), le-leb w (suc n) (le-of-dvd (zero-lt-suc n) d))
+
+-- and so its lengths are the multiples of its width
+pub allowed-multiples : (c n : ℕ) (s : Sizes) → kindOf c ≡ Plain s → (c ≡ C2 → ⊥) → allowed c n ≡ eqb (n % s .width) 0
+unfolding allowed
+allowed-multiples c n s e other =
+    let t : T (ordinary c (Plain s)) = subst (λ (k : Kind). T (ordinary c k)) e (kept ordinary c tt tt) in
+    let q : s .least ≡ s .width = eqb→eq (s .least) (s .width) (rw (ne-eqb c C2 other) at t) in
+    rw (e, q) (multiples (s .width) n)
+
+-- C2 has every length but 1
+pub allowed-c2 : (n : ℕ) → allowed C2 n ≡ not (eqb n 1)
+unfolding allowed kindOf allowedBy
+allowed-c2 n = rw (eq-eqb (n % 1) 0 (mod-one n)) (go n)
+  where
+    go : (n : ℕ) → (eqb n 0 || leb 2 n) ≡ not (eqb n 1)
+    go zero = refl
+    go (suc zero) = refl
+    go (suc (suc n)) = rw (ne-eqb (suc (suc n)) 0 (λ z. omega arith), ne-eqb (suc (suc n)) 1 (λ z. omega arith), le-leb 2 (suc (suc n)) (omega arith))
 
 pub largest-le : (c : ℕ) → largest c ≤ 0xFF
 unfolding largest

@@ -7,8 +7,7 @@ use lib.Dec.{eqb, ltb}
 use lib.ListN.{length}
 use Rattle.wire.specs.Longest.{longest}
 use Rattle.wire.specs.Number.{numberOf, bytesOf, AtMost}
-use Rattle.item.specs.Code.{L, BOOLEAN, kindOf, allowed, largest}
-use Rattle.item.specs.declared.Kind.the-variants.{Plain}
+use Rattle.item.specs.Code.{L, BOOLEAN, kindOf, isPlain, allowed, largest}
 
 -- the tree: an item has a code other than L and its content, or is a list of members
 mutual
@@ -57,8 +56,7 @@ limit lean c = cond (eqb c BOOLEAN) 0x01 (largest c)
 
 -- a content of a code other than L
 pub record Content (f : Form) (c : ℕ) (x : List ℕ) : Type 0 where
-  pub width : ℕ
-  pub known : kindOf c ≡ Plain width
+  pub known : isPlain (kindOf c) ≡ true
   pub whole : allowed c (length x) ≡ true
   pub bytes : AtMost (limit f c) x
 

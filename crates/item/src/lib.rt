@@ -1,15 +1,30 @@
 ghost use mathlib.Core.Path.{_≡_};
-ghost use Rattle.item.specs.Code.{kindOf, nameOf, allowed, largest};
+ghost use Rattle.item.specs.Code.{kindOf, nameOf, allowedBy, allowed, largest};
 ghost use Rattle.item.specs.Item.{fewest};
 
 // The code of a list.
 pub const L: u32 = 0o00;
 
-// What a format code stands for: a list, elements of so many bytes each, or nothing.
+// The width of a content's elements, and the least length of a content that is not empty.
+pub struct Sizes {
+    pub width: usize,
+    pub least: usize,
+}
+
+// What a format code stands for: a list, a content of such sizes, or nothing.
 pub enum Kind {
     List,
-    Plain(usize),
+    Plain(Sizes),
     Unknown,
+}
+
+fn each(width: usize) -> Kind
+    ensures { λ r. ⌜ r ≡ Rattle.item.specs.Code.each width ⌝ }
+{
+    Kind::Plain(Sizes {
+        width,
+        least: width,
+    })
 }
 
 pub fn kind_of(code: u32) -> Kind
@@ -17,11 +32,12 @@ pub fn kind_of(code: u32) -> Kind
 {
     match code {
         L => Kind::List,
-        0o10 | 0o20 | 0o31 | 0o51 => Kind::Plain(1),
-        0o11 | 0o21 => Kind::Plain(1),
-        0o32 | 0o52 => Kind::Plain(2),
-        0o34 | 0o44 | 0o54 => Kind::Plain(4),
-        0o30 | 0o40 | 0o50 => Kind::Plain(8),
+        0o10 | 0o20 | 0o31 | 0o51 => each(1),
+        0o11 | 0o21 => each(1),
+        0o22 => Kind::Plain(Sizes { width: 1, least: 2 }),
+        0o32 | 0o52 => each(2),
+        0o34 | 0o44 | 0o54 => each(4),
+        0o30 | 0o40 | 0o50 => each(8),
         _ => Kind::Unknown,
     }
 }
@@ -38,6 +54,7 @@ pub fn name_of(code: u32) -> Name
         0o11 => Name(*b"BOOLEAN", 7),
         0o20 => Name(*b"A\0\0\0\0\0\0", 1),
         0o21 => Name(*b"J\0\0\0\0\0\0", 1),
+        0o22 => Name(*b"C2\0\0\0\0\0", 2),
         0o31 => Name(*b"I1\0\0\0\0\0", 2),
         0o51 => Name(*b"U1\0\0\0\0\0", 2),
         0o32 => Name(*b"I2\0\0\0\0\0", 2),
@@ -52,13 +69,29 @@ pub fn name_of(code: u32) -> Name
     }
 }
 
+// Whether a content of these sizes may have this length.
+pub fn allows(s: Sizes, n: usize) -> bool
+    ensures { λ r. ⌜ r ≡ allowedBy s n ⌝ }
+{
+    if n == 0 {
+        return true;
+    }
+    if n < s.least {
+        return false;
+    }
+    if s.width == 0 {
+        return false;
+    }
+    n % s.width == 0
+}
+
 // Whether an item of this code may have this length.
 pub fn is_allowed(code: u32, n: usize) -> bool
     ensures { λ r. ⌜ r ≡ allowed code n ⌝ }
 {
     match kind_of(code) {
         Kind::List => true,
-        Kind::Plain(width) => n % width == 0,
+        Kind::Plain(s) => allows(s, n),
         Kind::Unknown => false,
     }
 }

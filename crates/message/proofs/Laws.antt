@@ -1,15 +1,14 @@
 -- Byte 2 of a Reject, by its reason; the item of a header: the format byte of B, one length byte, 10, the header's bytes, in all twelve, a lean text.
-use Prim.Native.Nat.{ℕ, _%_}
+use Prim.Native.Nat.{ℕ}
 use mathlib.Core.Path.{_≡_, refl, ap, _∙_}
-use mathlib.Core.List.{List, _∷_}
-use native.Mathlib.Nat.{mod-one}
+use mathlib.Core.List.{_∷_}
 use native.Mathlib.Omega.{arith}
-use borrow.Author.Tests.{eq-eqb, ne-eqb}
+use borrow.Author.Tests.{ne-eqb}
 use lib.ListN.{length}
 use Rattle.wire.specs.Number.{bytesOf, AtMost}
-use Rattle.item.specs.Code.{kindOf, allowed, largest}
-use Rattle.item.specs.Item.{plain, one, lean, fewest, Content, Says, told, leanItem}
+use Rattle.item.specs.Item.{plain, one, lean, fewest, Says, told, leanItem}
 use Rattle.item.proofs.Fewest.{lean-lengths}
+use Rattle.item.proofs.Contents.{bytes-content}
 use Rattle.frame.specs.Header.{headerBytes}
 use Rattle.frame.specs.declared.Header.{Header}
 use Rattle.frame.proofs.Laws.{bytes-length}
@@ -35,14 +34,9 @@ about-bytes h = refl
 pub about-length : (h : Header) → length (aboutOf h) ≡ 12
 about-length h = ap length (about-bytes h) ∙ rw (bytes-length h)
 
--- any bytes are a lean content of B
-bytes-content : (x : List ℕ) → AtMost 0xFF x → Content lean 0o10 x
-unfolding kindOf allowed largest
-bytes-content x a = record { width = 1; known = refl; whole = eq-eqb (length x % 1) 0 (mod-one (length x)); bytes = a }
-
 pub about-lean : (h : Header) → AtMost 0xFF (headerBytes h) → Says lean (one (plain 0o10 (headerBytes h))) (aboutOf h)
 unfolding aboutOf leanItem told
 about-lean h a =
     let n = length (headerBytes h) in
     let lens = lean-lengths n (omega (arith, bytes-length h)) in
-    ((bytesOf (fewest n) n, refl, lens, bytes-content (headerBytes h) a, omega arith), omega (arith, about-length h))
+    ((bytesOf (fewest n) n, refl, lens, bytes-content lean (headerBytes h) a, omega arith), omega (arith, about-length h))

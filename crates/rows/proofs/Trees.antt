@@ -8,7 +8,8 @@ use lib.ListN.{length, length-append}
 use Rattle.wire.specs.Longest.{longest}
 use Rattle.wire.specs.Number.{bytesOf}
 use Rattle.item.specs.Code.{L}
-use Rattle.item.specs.Item.{Item, Items, plain, list, none, more, count, Tree, empty, one, good, lean, fewest, Content, Lengths, Spells, SpellsAll, Says, told, meaning, meanings, meaningOf, leanHeader, leanItem, leanItems, leanOf}
+use Rattle.item.specs.Item.{Item, Items, plain, list, none, more, count, Tree, empty, one, good, lean, fewest, Content, Lengths, Spells, SpellsAll}
+use Rattle.item.specs.Item.{Says, told, meaning, meanings, meaningOf, leanHeader, leanItem, leanItems, leanOf}
 use Rattle.item.proofs.Codes.{plain-not-list, plain-small}
 use Rattle.item.proofs.Fewest.{lean-lengths}
 use Rattle.item.proofs.Lean.{told-length, told-content, count-meanings}
@@ -32,7 +33,7 @@ mutual
   pub item-text : (i : Item) (s : List ℕ) (d : ℕ) (rs : List Row) → HasItem s d i rs → textOf s rs ≡ leanItem i
   item-text (plain c x) s d rs (r, e, q, within, is, con, deep) =
       let n : length x ≡ r .length = ap length is ∙ part-length s r within in
-      ap (textOf s) e ∙ append-nil (rowText s r) ∙ plain-text s r (λ z. plain-not-list c (con .width) (con .known) (sym q ∙ z)) ∙ rw (q, ← is, ← n)
+      ap (textOf s) e ∙ append-nil (rowText s r) ∙ plain-text s r (λ z. plain-not-list c (con .known) (sym q ∙ z)) ∙ rw (q, ← is, ← n)
   item-text (list is) s d rs (r, ms, e, q, n, all, deep) =
       ap (textOf s) e ∙ ap₂ (λ (y z : List ℕ). y ++ z) (list-text s r q ∙ ap₂ leanHeader q n) (items-text is s (suc d) ms all)
 
@@ -72,7 +73,7 @@ module _ (s : List ℕ) (P : Row → Type 0) (of-list : (r : Row) → r .code �
 pub tree-fits : (w : Tree) (s : List ℕ) (rs : List Row) → Has s w rs → Each (Fits s) rs
 tree-fits w s rs h =
     tree-each s (Fits s) (λ r q. record { small = omega arith; within = λ z. absurd (z q) })
-    (λ r within con. record { small = plain-small (r .code) (con .width) (con .known); within = λ _. within }) w rs h
+    (λ r within con. record { small = plain-small (r .code) (con .known); within = λ _. within }) w rs h
 
 pub tree-size : (w : Tree) (s : List ℕ) (rs : List Row) → Has s w rs → sizeOf rs ≡ length (leanOf w)
 tree-size w s rs h = sym (text-length s rs (tree-fits w s rs h)) ∙ ap length (tree-text w s rs h)
@@ -99,24 +100,27 @@ mutual
 
   pub item-spells : (i : Item) (s : List ℕ) (d : ℕ) (rs : List Row) → HasItem s d i rs → length (leanItem i) < 2 ^ 24 → Spells lean d (meaning i) (leanItem i)
   item-spells (plain c x) s d rs (r, e, q, within, is, con, deep) few =
-      let n = length-append (leanHeader c (length x)) (told c x) in (
+      let n = length-append (leanHeader c (length x)) (told c x) in
+      let lens = lean-lengths (length x) (omega (arith, n, told-length c x)) in (
         bytesOf (fewest (length x)) (length x),
         refl,
-        subst (λ (m : ℕ). Lengths lean (bytesOf (fewest (length x)) (length x)) m) (sym (told-length c x)) (lean-lengths (length x) (omega (arith, n, told-length c x))),
+        subst (λ (m : ℕ). Lengths lean (bytesOf (fewest (length x)) (length x)) m) (sym (told-length c x)) lens,
         told-content c x con,
         deep,
       )
   item-spells (list is) s d rs (r, ms, e, q, n, all, deep) few =
-      let m = length-append (leanHeader L (count is)) (leanItems is) in (
+      let m = length-append (leanHeader L (count is)) (leanItems is) in
+      let lens = lean-lengths (count is) (omega (arith, m, items-fewer is s (suc d) ms all)) in (
         bytesOf (fewest (count is)) (count is),
         leanItems is,
         refl,
-        subst (λ (k : ℕ). Lengths lean (bytesOf (fewest (count is)) (count is)) k) (sym (count-meanings is)) (lean-lengths (count is) (omega (arith, m, items-fewer is s (suc d) ms all))),
+        subst (λ (k : ℕ). Lengths lean (bytesOf (fewest (count is)) (count is)) k) (sym (count-meanings is)) lens,
         items-spell is s (suc d) ms all (omega (arith, m)),
         deep,
       )
 
-  pub items-spell : (is : Items) (s : List ℕ) (d : ℕ) (rs : List Row) → HasAll s d is rs → length (leanItems is) < 2 ^ 24 → SpellsAll lean d (meanings is) (leanItems is)
+  pub items-spell : (is : Items) (s : List ℕ) (d : ℕ) (rs : List Row) → HasAll s d is rs → length (leanItems is) < 2 ^ 24
+      → SpellsAll lean d (meanings is) (leanItems is)
   items-spell none s d rs e few = refl
   items-spell (more i is) s d rs (u, v, e, h, all) few =
       let n = length-append (leanItem i) (leanItems is) in
@@ -146,16 +150,17 @@ module _ (s : List ℕ) where
         record { tree = ap₂ plain (sym q ∙ ap (λ (y : Row). y .code) p ∙ q′) (is ∙ ap (partAt s) p ∙ sym is′); rest = rest }
     item-once (plain c x) (list js) d u u′ v v′ (r, e, q, w, is, con, deep) (r′, ms′, e′, q′, n′, all′, deep′) k =
         let (p, rest) = behind-row u u′ v v′ [] ms′ r r′ e e′ k in
-        absurd (plain-not-list c (con .width) (con .known) (sym q ∙ ap (λ (y : Row). y .code) p ∙ q′))
+        absurd (plain-not-list c (con .known) (sym q ∙ ap (λ (y : Row). y .code) p ∙ q′))
     item-once (list is) (plain c′ x′) d u u′ v v′ (r, ms, e, q, n, all, deep) (r′, e′, q′, w′, is′, con′, deep′) k =
         let (p, rest) = behind-row u u′ v v′ ms [] r r′ e e′ k in
-        absurd (plain-not-list c′ (con′ .width) (con′ .known) (sym q′ ∙ ap (λ (y : Row). y .code) (sym p) ∙ q))
+        absurd (plain-not-list c′ (con′ .known) (sym q′ ∙ ap (λ (y : Row). y .code) (sym p) ∙ q))
     item-once (list is) (list js) d u u′ v v′ (r, ms, e, q, n, all, deep) (r′, ms′, e′, q′, n′, all′, deep′) k =
         let (p, rest) = behind-row u u′ v v′ ms ms′ r r′ e e′ k in
         let o = items-once is js (suc d) ms ms′ v v′ (sym n ∙ ap (λ (y : Row). y .length) p ∙ n′) all all′ rest in
         record { tree = ap list (o .tree); rest = o .rest }
 
-    pub items-once : (is js : Items) (d : ℕ) (u u′ v v′ : List Row) → count is ≡ count js → HasAll s d is u → HasAll s d js u′ → u ++ v ≡ u′ ++ v′ → Same is js v v′
+    pub items-once : (is js : Items) (d : ℕ) (u u′ v v′ : List Row) → count is ≡ count js → HasAll s d is u → HasAll s d js u′ → u ++ v ≡ u′ ++ v′
+        → Same is js v v′
     items-once none none d u u′ v v′ n e e′ k = record { tree = refl; rest = rw (e, e′) at k }
     items-once none (more j js) d u u′ v v′ n h h′ k = absurd (omega arith)
     items-once (more i is) none d u u′ v v′ n h h′ k = absurd (omega arith)

@@ -1,6 +1,8 @@
--- The walk from format byte to format byte meets the items of a good text in order: each header says how many bytes belong to its row, and the walk goes on behind them.
+-- The walk from format byte to format byte meets the items of a good text in order: each header says how many bytes belong to its row, and the walk goes
+-- on behind them.
 use Prim.Native.Nat.{ℕ, zero, suc, _+_, _*_, _/_, _%_, _≤_}
 use mathlib.Core.Path.{_≡_, refl, sym, ap, ap₂, subst, _∙_}
+use mathlib.Core.Bool.{true}
 use mathlib.Core.List.{List, [], _∷_, _++_, append-assoc, append-nil}
 use native.Mathlib.Omega.{arith}
 use borrow.Author.Tests.{ne-eqb}
@@ -8,8 +10,7 @@ use lib.ListN.{length, take, drop, length-append}
 use lib.Seq.{take-at, drop-at}
 use Rattle.wire.specs.Longest.{longest}
 use Rattle.wire.specs.Number.{numberOf}
-use Rattle.item.specs.Code.{L, kindOf}
-use Rattle.item.specs.declared.Kind.the-variants.{Plain}
+use Rattle.item.specs.Code.{L, kindOf, isPlain}
 use Rattle.item.specs.Item.{Item, Items, plain, list, none, more, count, Tree, empty, one, good, Lengths, header, Spells, SpellsAll, Says}
 use Rattle.item.proofs.Codes.{plain-not-list}
 use Rattle.item.proofs.Laws.{shortest}
@@ -67,9 +68,9 @@ module _ (c n : ℕ) (ls y : List ℕ) (lens : Lengths good ls n) where
       }
 
 -- the bytes of an item's own, behind its header
-own-content : (c w n : ℕ) → kindOf c ≡ Plain w → contentSize c n ≡ n
+own-content : (c n : ℕ) → isPlain (kindOf c) ≡ true → contentSize c n ≡ n
 unfolding contentSize
-own-content c w n k = rw (ne-eqb c L (plain-not-list c w k))
+own-content c n k = rw (ne-eqb c L (plain-not-list c k))
 
 own-none : (n : ℕ) → contentSize L n ≡ 0
 unfolding contentSize
@@ -82,7 +83,7 @@ mutual
   item-walked (plain c x) d u v (ls, e, lens, con, deep) p =
       let t : u ++ v ≡ header c ls ++ (x ++ v) = ap (λ (y : List ℕ). y ++ v) e ∙ append-assoc (header c ls) x v in
       let n : p + 1 + length ls + length x ≡ p + length u = omega (arith, ap length e, length-append (header c ls) x) in
-      let z : contentSize c (length x) ≡ length x + 0 = own-content c (con .width) (length x) (con .known) ∙ omega arith in
+      let z : contentSize c (length x) ≡ length x + 0 = own-content c (length x) (con .known) ∙ omega arith in
       rw (t, ← n) (then p 0 (p + 1 + length ls) (contentSize c (length x)) (p + 1 + length ls + length x) 0 _ (x ++ v) v _ []
       (headed c (length x) ls (x ++ v) lens p) (passed x v (p + 1 + length ls) 0 (contentSize c (length x)) z))
   item-walked (list is) d u v (ls, body, e, lens, all, deep) p =
@@ -90,7 +91,8 @@ mutual
       let n : p + 1 + length ls + length body ≡ p + length u = omega (arith, ap length e, length-append (header L ls) body) in
       let h = headed L (count is) ls (body ++ v) lens p in
       rw (t, ← n) (then p 0 (p + 1 + length ls) 0 (p + 1 + length ls + length body) 0 _ (body ++ v) v _ _
-      (subst (λ (k : ℕ). Walked p 0 (p + 1 + length ls) k (header L ls ++ (body ++ v)) (body ++ v) (row L (count is) (p + 1 + length ls) ∷ [])) (own-none (count is)) h)
+      (subst (λ (k : ℕ). Walked p 0 (p + 1 + length ls) k (header L ls ++ (body ++ v)) (body ++ v) (row L (count is) (p + 1 + length ls) ∷ []))
+      (own-none (count is)) h)
       (items-walked is (suc d) body v all (p + 1 + length ls)))
 
   items-walked : (is : Items) (d : ℕ) (u v : List ℕ) (s : SpellsAll good d is u) (p : ℕ) → Walked p 0 (p + length u) 0 (u ++ v) v (itemsRows is d u s p)
@@ -100,7 +102,8 @@ mutual
   items-walked (more i is) d u v (a, b, e, s, all) p =
       let t : u ++ v ≡ a ++ (b ++ v) = ap (λ (y : List ℕ). y ++ v) e ∙ append-assoc a b v in
       let n : p + length a + length b ≡ p + length u = omega (arith, ap length e, length-append a b) in
-      rw (t, ← n) (then p 0 (p + length a) 0 (p + length a + length b) 0 _ (b ++ v) v _ _ (item-walked i d a (b ++ v) s p) (items-walked is d b v all (p + length a)))
+      rw (t, ← n) (then p 0 (p + length a) 0 (p + length a + length b) 0 _ (b ++ v) v _ _
+      (item-walked i d a (b ++ v) s p) (items-walked is d b v all (p + length a)))
 
 -- the rows of a good text, read from its bytes, are those of the definition, and the walk ends with the text
 pub text-walked : (w : Tree) (t : List ℕ) (s : Says good w t) → (rowsIn t ≡ rowsOfText w t s) × Ends 0 t
@@ -127,7 +130,9 @@ later t u a b p q e n l =
       before = l .before ++ a;
       behind = l .behind;
       at = length-append (l .before) a ∙ omega (arith, l .at);
-      all = l .all ∙ ap (λ (y : List ℕ). l .before ++ y) (ap (λ (y : List ℕ). y ++ l .behind) e ∙ append-assoc a b (l .behind)) ∙ sym (append-assoc (l .before) a (b ++ l .behind));
+      all =
+          l .all ∙ ap (λ (y : List ℕ). l .before ++ y) (ap (λ (y : List ℕ). y ++ l .behind) e ∙ append-assoc a b (l .behind))
+          ∙ sym (append-assoc (l .before) a (b ++ l .behind));
     }
 
 earlier : (t u a b : List ℕ) (p : ℕ) → u ≡ a ++ b → Lies t u p → Lies t a p

@@ -49,7 +49,7 @@ tableAfter (Refused k) t table = table
 abbrev pub partNumberAs : Kind → Bool → ℕ
 partNumberAs K.Unknown within = 1
 partNumberAs K.List within = 9
-partNumberAs (K.Plain w) within = cond within 0 16
+partNumberAs (K.Plain _) within = cond within 0 16
 
 unfoldable pub partNumber : List ℕ → Row → ℕ
 partNumber t r = partNumberAs (kindOf (r .code)) (inside t r)

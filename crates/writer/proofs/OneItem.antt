@@ -8,11 +8,11 @@ use borrow.Author.Tests.{le-leb, eqb-true, eqb-false, leb-true}
 use lib.Dec.{eqb, leb}
 use lib.ListN.{length}
 use Rattle.wire.specs.Number.{AtMost}
-use Rattle.item.specs.Code.{L, kindOf, allowed, largest}
+use Rattle.item.specs.Code.{L, kindOf, isPlain, allowed, largest}
 use Rattle.item.specs.Item.{Item, Items, plain, list, none, more, count, Tree, empty, one, good, Content}
 use Rattle.item.specs.declared.Kind.{Kind}
 use Rattle.item.specs.declared.Kind.the-variants as K
-use Rattle.item.proofs.Codes.{plain-not-list, list-code}
+use Rattle.item.proofs.Codes.{of-plain, plain-not-list, list-code}
 use Rattle.levels.specs.Levels.{began, leaving}
 use Rattle.levels.proofs.Laws.{leaving-some}
 use Rattle.wire.specs.Lists.{Each}
@@ -49,15 +49,15 @@ module _ (s : List ℕ) where
       let b : atMost (largest (r .code)) (partAt s r) ≡ true = ap (atMost (largest (r .code))) (sym e) ∙ at-most-test (largest (r .code)) x (con .bytes) in
       rw (a, le-leb (r .place + r .length) (length s) h, b)
 
-  none-content : (r : Row) (w : ℕ) → kindOf (r .code) ≡ K.Plain w → contentNumber s r ≡ 0 → (r .place + r .length ≤ length s) × Content good (r .code) (partAt s r)
+  none-content : (r : Row) → isPlain (kindOf (r .code)) ≡ true → contentNumber s r ≡ 0 → (r .place + r .length ≤ length s) × Content good (r .code) (partAt s r)
   unfolding contentNumber
-  none-content r w k e = go (allowed (r .code) (r .length)) refl (inside s r) refl (atMost (largest (r .code)) (partAt s r)) refl e
+  none-content r k e = go (allowed (r .code) (r .length)) refl (inside s r) refl (atMost (largest (r .code)) (partAt s r)) refl e
     where
       go : (a : Bool) → allowed (r .code) (r .length) ≡ a → (b : Bool) → inside s r ≡ b → (c : Bool) → atMost (largest (r .code)) (partAt s r) ≡ c
           → _≡_ {A = ℕ} (cond a (cond b (cond c 0 6) 16) 3) 0 → (r .place + r .length ≤ length s) × Content good (r .code) (partAt s r)
       go true f true g true h q =
           let l = leb-true (r .place + r .length) (length s) g in
-          (l, record { width = w; known = k; whole = ap (allowed (r .code)) (part-length s r l) ∙ f; bytes = test-at-most (largest (r .code)) (partAt s r) h })
+          (l, record { known = k; whole = ap (allowed (r .code)) (part-length s r l) ∙ f; bytes = test-at-most (largest (r .code)) (partAt s r) h })
       go true f true g false h q = absurd (omega arith)
       go true f false g c h q = absurd (omega arith)
       go false f b g c h q = absurd (omega arith)
@@ -76,7 +76,8 @@ module _ (s : List ℕ) where
   list-levels : (n : ℕ) (st : List ℕ) (r : Row) (m : ℕ) → r .code ≡ L → r .length ≡ m → levelsBehind (suc n ∷ st) r ≡ leaving (m ∷ n ∷ st)
   list-levels n st r m h q = behind-list (suc n ∷ st) r h ∙ ap₂ (λ (x : ℕ) (y : List ℕ). leaving (x ∷ y)) q (less n st)
 
-  taken : (n : ℕ) (st u : List ℕ) (r : Row) (rs : List Row) → rowNumber s (suc n ∷ st) r ≡ 0 → levelsBehind (suc n ∷ st) r ≡ u → judgedFrom s (suc n ∷ st) (r ∷ rs) ≡ judgedFrom s u rs
+  taken : (n : ℕ) (st u : List ℕ) (r : Row) (rs : List Row) → rowNumber s (suc n ∷ st) r ≡ 0 → levelsBehind (suc n ∷ st) r ≡ u
+      → judgedFrom s (suc n ∷ st) (r ∷ rs) ≡ judgedFrom s u rs
   taken n st u r rs z e = judged-on s (suc n ∷ st) r rs (r ∷ rs) refl z ∙ ap (λ (v : List ℕ). judgedFrom s v rs) e
 
   list-none : (st : List ℕ) (r : Row) → (0 < r .length → length st < 16) → listNumber st r ≡ 0
@@ -93,6 +94,10 @@ module _ (s : List ℕ) where
   unfolding rowNumber
   number-as n st r k e = ap (λ (x : Kind). numberAs x s (suc n ∷ st) r) e
 
+  number-plain : (n : ℕ) (st : List ℕ) (r : Row) → isPlain (kindOf (r .code)) ≡ true → rowNumber s (suc n ∷ st) r ≡ contentNumber s r
+  number-plain n st r p =
+      number-as n st r (kindOf (r .code)) refl ∙ of-plain (λ k. numberAs k s (suc n ∷ st) r ≡ contentNumber s r) (kindOf (r .code)) p (λ _. refl)
+
   kind-list : (c : ℕ) → c ≡ L → kindOf c ≡ K.List
   unfolding kindOf
   kind-list c e = ap kindOf e
@@ -105,20 +110,23 @@ module _ (s : List ℕ) where
   mutual
     unfolding leaving
 
-    item-taken : (i : Item) (st : List ℕ) (n : ℕ) (rs qs : List Row) → HasItem s (suc (length st)) i rs → judgedFrom s (suc n ∷ st) (rs ++ qs) ≡ judgedFrom s (leaving (n ∷ st)) qs
+    item-taken : (i : Item) (st : List ℕ) (n : ℕ) (rs qs : List Row) → HasItem s (suc (length st)) i rs
+        → judgedFrom s (suc n ∷ st) (rs ++ qs) ≡ judgedFrom s (leaving (n ∷ st)) qs
     item-taken (plain c x) st n rs qs (r, e, q, within, is, con, deep) =
         let con′ : Content good (r .code) x = subst (λ (y : ℕ). Content good y x) (sym q) con in
         ap (λ (y : List Row). judgedFrom s (suc n ∷ st) (y ++ qs)) e
-        ∙ taken n st (leaving (n ∷ st)) r qs (number-as n st r (K.Plain (con′ .width)) (con′ .known) ∙ content-none r x within is con′)
-        (plain-levels n st r (plain-not-list (r .code) (con′ .width) (con′ .known)))
+        ∙ taken n st (leaving (n ∷ st)) r qs (number-plain n st r (con′ .known) ∙ content-none r x within is con′)
+        (plain-levels n st r (plain-not-list (r .code) (con′ .known)))
     item-taken (list is) st n rs qs (r, ms, e, q, m, all, deep) =
         ap (λ (y : List Row). judgedFrom s (suc n ∷ st) (y ++ qs)) e
         ∙ taken n st (leaving (count is ∷ n ∷ st)) r (ms ++ qs)
-        (number-as n st r K.List (kind-list (r .code) q) ∙ list-none (suc n ∷ st) r (λ h. omega (arith, members-deep is (suc (suc (length st))) ms (omega arith) all)))
+        (number-as n st r K.List (kind-list (r .code) q)
+        ∙ list-none (suc n ∷ st) r (λ h. omega (arith, members-deep is (suc (suc (length st))) ms (omega arith) all)))
         (list-levels n st r (count is) q m)
         ∙ items-taken is (n ∷ st) ms qs all
 
-    items-taken : (is : Items) (st : List ℕ) (rs qs : List Row) → HasAll s (suc (length st)) is rs → judgedFrom s (leaving (count is ∷ st)) (rs ++ qs) ≡ judgedFrom s (leaving st) qs
+    items-taken : (is : Items) (st : List ℕ) (rs qs : List Row) → HasAll s (suc (length st)) is rs
+        → judgedFrom s (leaving (count is ∷ st)) (rs ++ qs) ≡ judgedFrom s (leaving st) qs
     items-taken none st rs qs e = ap (λ (z : List Row). judgedFrom s (leaving (0 ∷ st)) (z ++ qs)) e
     items-taken (more i is) st rs qs (u, v, e, h, all) =
         ap₂ (λ (y : List ℕ) (z : List Row). judgedFrom s y z) (leaving-some (count is) st) (ap (λ (z : List Row). z ++ qs) e ∙ append-assoc u v qs)
@@ -159,9 +167,10 @@ module _ (s : List ℕ) where
   unleave (suc n ∷ st) rs h = subst (λ (y : List ℕ). Runs y rs) (leaving-some n st) h
 
   -- one item more at the innermost level
-  add-plain : (r : Row) (w n : ℕ) (st : List ℕ) (rs : List Row) → kindOf (r .code) ≡ K.Plain w → contentNumber s r ≡ 0 → suc (length st) ≤ 16 → Runs (n ∷ st) rs → Runs (suc n ∷ st) (r ∷ rs)
-  add-plain r w n st rs k z deep (u, v, e, (is, c, all), rest) =
-      let con = none-content r w k z in (
+  add-plain : (r : Row) (n : ℕ) (st : List ℕ) (rs : List Row) → isPlain (kindOf (r .code)) ≡ true → contentNumber s r ≡ 0 → suc (length st) ≤ 16
+      → Runs (n ∷ st) rs → Runs (suc n ∷ st) (r ∷ rs)
+  add-plain r n st rs k z deep (u, v, e, (is, c, all), rest) =
+      let con = none-content r k z in (
         r ∷ u,
         v,
         ap (λ (y : List Row). r ∷ y) e,
@@ -190,16 +199,22 @@ module _ (s : List ℕ) where
 
   module _ (r : Row) (rs : List Row) (n : ℕ) (st : List ℕ) (rec : (u : List ℕ) → Awaits u → length u ≤ 16 → judgedFrom s u rs ≡ 0 → Runs u rs) where
     -- what follows the row, as what its levels await
-    follow : (u : List ℕ) → levelsBehind (suc n ∷ st) r ≡ leaving u → length (levelsBehind (suc n ∷ st) r) ≤ 16 → judgedFrom s (levelsBehind (suc n ∷ st) r) rs ≡ 0 → Runs u rs
-    follow u e h z = unleave u rs (rec (leaving u) (leaving-awaits u) (subst (λ (y : List ℕ). length y ≤ 16) e h) (ap (λ (y : List ℕ). judgedFrom s y rs) (sym e) ∙ z))
+    follow : (u : List ℕ) → levelsBehind (suc n ∷ st) r ≡ leaving u → length (levelsBehind (suc n ∷ st) r) ≤ 16
+        → judgedFrom s (levelsBehind (suc n ∷ st) r) rs ≡ 0 → Runs u rs
+    follow u e h z =
+        let few = subst (λ (y : List ℕ). length y ≤ 16) e h in
+        unleave u rs (rec (leaving u) (leaving-awaits u) few (ap (λ (y : List ℕ). judgedFrom s y rs) (sym e) ∙ z))
 
-    as-kind : (k : Kind) → kindOf (r .code) ≡ k → length (suc n ∷ st) ≤ 16 → numberAs k s (suc n ∷ st) r ≡ 0 → judgedFrom s (levelsBehind (suc n ∷ st) r) rs ≡ 0 → Runs (suc n ∷ st) (r ∷ rs)
+    as-kind : (k : Kind) → kindOf (r .code) ≡ k → length (suc n ∷ st) ≤ 16 → numberAs k s (suc n ∷ st) r ≡ 0
+        → judgedFrom s (levelsBehind (suc n ∷ st) r) rs ≡ 0 → Runs (suc n ∷ st) (r ∷ rs)
     as-kind K.Unknown e h z q = absurd (omega arith)
     as-kind K.List e h z q =
         let c = list-code (r .code) e in
         add-list r n st rs c h (follow (r .length ∷ n ∷ st) (list-levels n st r (r .length) c refl) (behind-few (suc n ∷ st) r h (λ _. z)) q)
-    as-kind (K.Plain w) e h z q =
-        add-plain r w n st rs e z h (follow (n ∷ st) (plain-levels n st r (plain-not-list (r .code) w e)) (behind-few (suc n ∷ st) r h (λ l. absurd (plain-not-list (r .code) w e l))) q)
+    as-kind (K.Plain _) e h z q =
+        let p : isPlain (kindOf (r .code)) ≡ true = ap isPlain e in
+        let not-list = plain-not-list (r .code) p in
+        add-plain r n st rs p z h (follow (n ∷ st) (plain-levels n st r not-list) (behind-few (suc n ∷ st) r h (λ l. absurd (not-list l))) q)
 
   runs : (rs : List Row) (st : List ℕ) → Awaits st → length st ≤ 16 → judgedFrom s st rs ≡ 0 → Runs st rs
   unfolding judgedFrom rowNumber

@@ -39,7 +39,7 @@ contentNumber s r =
 abbrev pub numberAs : Kind → List ℕ → List ℕ → Row → ℕ
 numberAs K.Unknown s st r = 1
 numberAs K.List s st r = listNumber st r
-numberAs (K.Plain w) s st r = contentNumber s r
+numberAs (K.Plain _) s st r = contentNumber s r
 
 -- 15 (the item has ended), 1, 4, 3, 16, 6
 unfoldable pub rowNumber : List ℕ → List ℕ → Row → ℕ

@@ -1,8 +1,10 @@
 //! Elements got and set.
 
+mod wide;
+
 use crate::book::{hex, Book};
 use crate::elements::{get, set, Element};
-use crate::items::{Kind, Sort, A, B, BOOLEAN, KINDS, LIST};
+use crate::items::{Kind, Sort, A, B, BOOLEAN, KINDS, KINDS_OF_01, LIST};
 use crate::random::Random;
 use crate::trees;
 
@@ -10,7 +12,8 @@ const J: u32 = 0o21;
 const I2: u32 = 0o32;
 const F4: u32 = 0o44;
 const F8: u32 = 0o40;
-const UNKNOWN: u32 = 0o22;
+const UNKNOWN: u32 = 0o23;
+const SORTS: [Element; 5] = [Element::Signed(1), Element::Unsigned(1), Element::F4(1), Element::F8(1), Element::Byte(1)];
 
 struct Elements {
     book: Book,
@@ -27,6 +30,7 @@ pub fn make() -> Book {
     elements.set_orders();
     elements.sorts();
     elements.random_elements();
+    elements.wide();
     elements.book.bad_records(&[
         "g 00000020 000000",
         "g 0000002",
@@ -208,10 +212,9 @@ impl Elements {
     }
 
     fn sorts(&mut self) {
-        let sorts = [Element::Signed(1), Element::Unsigned(1), Element::F4(1), Element::F8(1), Element::Byte(1)];
-        for kind in &KINDS {
+        for kind in &KINDS[..KINDS_OF_01] {
             self.book.name(&format!("{} set to each sort", kind.name));
-            for element in sorts {
+            for element in SORTS {
                 self.set(kind.code, 0, element, &vec![0x77; kind.width as usize]);
             }
         }
@@ -220,19 +223,22 @@ impl Elements {
     fn random_elements(&mut self) {
         self.book.name("random elements");
         for _ in 0..500 {
-            let picked = self.random.below(KINDS.len());
-            let kind = &KINDS[picked];
-            let elements = self.random.below(4);
-            let mut content = trees::content(&mut self.random, kind, elements);
-            if self.random.percent(10) {
-                content.push(0x80);
-            }
-            let i = self.random.below(4) as u32;
-            self.get(kind.code, i, &content);
-            let shift = self.random.below(64);
-            let value = self.random.number() >> shift;
-            let sort = self.random.below(5) as u8;
-            self.set_fields(kind.code, i, (sort, value), &content);
+            let picked = self.random.below(KINDS_OF_01);
+            self.random_element(&KINDS[picked]);
         }
+    }
+
+    fn random_element(&mut self, kind: &Kind) {
+        let elements = self.random.below(4);
+        let mut content = trees::content(&mut self.random, kind, elements);
+        if self.random.percent(10) {
+            content.push(0x80);
+        }
+        let i = self.random.below(4) as u32;
+        self.get(kind.code, i, &content);
+        let shift = self.random.below(64);
+        let value = self.random.number() >> shift;
+        let sort = self.random.below(5) as u8;
+        self.set_fields(kind.code, i, (sort, value), &content);
     }
 }

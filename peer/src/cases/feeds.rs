@@ -1,10 +1,12 @@
 //! The fed reader.
 
+mod wide;
+
 use crate::book::Book;
-use crate::items::{item, item_head, A, KINDS, LIST, MOST_TEXT};
+use crate::items::{item, item_head, A, KINDS, KINDS_OF_01, LIST, MOST_TEXT};
 use crate::random::Random;
 use crate::reader::{Reader, State, Status};
-use crate::trees;
+use crate::trees::{self, Manner};
 
 struct Feeds {
     book: Book,
@@ -25,6 +27,7 @@ pub fn make() -> Book {
     feeds.random_texts();
     feeds.random_bytes();
     feeds.largest();
+    feeds.wide();
     feeds.written_oddly();
     feeds.book
 }
@@ -70,6 +73,14 @@ impl Feeds {
     fn bytewise(&mut self, bytes: &[u8]) {
         for byte in bytes {
             self.piece(&[*byte]);
+        }
+    }
+
+    /// Byte by byte, as long as there is a next one and more are taken.
+    fn while_taken(&mut self, mut next: impl FnMut(&mut Random) -> Option<u8>) {
+        while self.reader.status() == Status::More {
+            let Some(byte) = next(&mut self.random) else { break };
+            self.piece(&[byte]);
         }
     }
 
@@ -137,8 +148,8 @@ impl Feeds {
 
     fn numbers(&mut self) {
         let lines: [(&str, usize, &[u8]); 13] = [
-            ("1: the two-byte character code 22", 40, &[0x49]),
-            ("1 before 2: an unknown code without length bytes", 40, &[0x48]),
+            ("1: an unknown code, 23", 40, &[0x4D]),
+            ("1 before 2: an unknown code without length bytes", 40, &[0x4C]),
             ("1 before 5: an unknown code that would not fit", 2, &[0xFF]),
             ("2 at a member", 40, &[0x01, 0x02, 0x41, 0x00, 0x40]),
             ("2 before 5: no length bytes where one more byte is awaited", 2, &[0x40]),
@@ -251,43 +262,51 @@ impl Feeds {
 
     fn random_states(&mut self) {
         for case in 0..120 {
-            let random = &mut self.random;
-            let level = random.below(17) as u32;
-            let mut counts = [0; 16];
-            for count in counts.iter_mut().take(level as usize) {
-                *count = random.pick(&[0, 0, 1, 2]);
-            }
-            let awaited: u32 = counts.iter().sum();
-            let read = random.below(40) as u32;
-            let state = State {
-                n: read + 2 * awaited + random.below(8) as u32,
-                read,
-                level,
-                phase: random.below(4) as u8,
-                code: random.pick(&KINDS.each_ref().map(|kind| kind.code)),
-                left: random.pick(&[1, 1, 2, 3]),
-                value: random.pick(&[0, 0, 0, 1]),
-                counts,
-            };
+            let state = self.random_state();
             self.begin_at(&format!("random, {case}"), &state);
         }
     }
 
-    /// Good texts in random pieces; with one byte changed; with another N.
+    fn random_state(&mut self) -> State {
+        let random = &mut self.random;
+        let level = random.below(17) as u32;
+        let mut counts = [0; 16];
+        for count in counts.iter_mut().take(level as usize) {
+            *count = random.pick(&[0, 0, 1, 2]);
+        }
+        let awaited: u32 = counts.iter().sum();
+        let read = random.below(40) as u32;
+        State {
+            n: read + 2 * awaited + random.below(8) as u32,
+            read,
+            level,
+            phase: random.below(4) as u8,
+            code: KINDS[random.below(KINDS_OF_01)].code,
+            left: random.pick(&[1, 1, 2, 3]),
+            value: random.pick(&[0, 0, 0, 1]),
+            counts,
+        }
+    }
+
     fn random_texts(&mut self) {
         for case in 0..220 {
-            let text = trees::text(&mut self.random, false);
-            self.book.name(&format!("a random text, {case}"));
-            self.in_pieces(text.len(), &text);
-            let mut damaged = text.clone();
-            let place = self.random.below(text.len());
-            damaged[place] ^= 1 << self.random.below(8);
-            self.book.name("one bit changed");
-            self.in_pieces(text.len(), &damaged);
-            self.book.name("another N");
-            let n = (text.len() + self.random.below(7)).saturating_sub(3);
-            self.in_pieces(n, &text);
+            let text = trees::text(&mut self.random, Manner { lean: false, wide: false });
+            self.good_and_not(&format!("a random text, {case}"), &text);
         }
+    }
+
+    /// A good text in random pieces; with one bit changed; with another N.
+    fn good_and_not(&mut self, name: &str, text: &[u8]) {
+        self.book.name(name);
+        self.in_pieces(text.len(), text);
+        let mut damaged = text.to_vec();
+        let place = self.random.below(text.len());
+        damaged[place] ^= 1 << self.random.below(8);
+        self.book.name("one bit changed");
+        self.in_pieces(text.len(), &damaged);
+        self.book.name("another N");
+        let n = (text.len() + self.random.below(7)).saturating_sub(3);
+        self.in_pieces(n, text);
     }
 
     fn in_pieces(&mut self, n: usize, bytes: &[u8]) {
@@ -297,21 +316,21 @@ impl Feeds {
         }
     }
 
-    /// Bytes that often begin items, fed one by one as far as they are taken.
     fn random_bytes(&mut self) {
         for case in 0..200 {
             self.book.name(&format!("random bytes, {case}"));
             let n = 2 + self.random.below(30);
-            self.fresh(n);
-            for _ in 0..n {
-                if self.reader.status() != Status::More {
-                    break;
-                }
-                let small = self.random.below(4) as u8;
-                let byte = self.random.pick(&[0x01, 0x02, 0x03, 0x41, 0x42, 0x69, 0xB1, 0xA5, small, small, small]);
-                self.piece(&[byte]);
-            }
+            self.one_by_one(n, &[0x01, 0x02, 0x03, 0x41, 0x42, 0x69, 0xB1, 0xA5]);
         }
+    }
+
+    /// These bytes, which begin items, and small ones, fed one by one as far as they are taken.
+    fn one_by_one(&mut self, n: usize, formats: &[u8]) {
+        self.fresh(n);
+        self.while_taken(|random| {
+            let small = random.below(4) as u8;
+            Some(random.pick(&[formats, &[small; 3]].concat()))
+        });
     }
 
     fn largest(&mut self) {
@@ -401,7 +420,7 @@ fn length_states() -> Named {
     vec![
         ("a length byte comes next", length.clone()),
         ("a length byte, no level open", State { level: 0, n: 6, ..last }),
-        ("a length byte of an unknown code", State { code: 0o22, ..length }),
+        ("a length byte of an unknown code", State { code: 0o23, ..length }),
         ("a length byte of a code above 63", State { code: A + 64, ..length }),
         ("no length bytes to come", State { left: 0, ..length }),
         ("three length bytes to come", State { left: 3, n: 12, ..length }),

@@ -3,7 +3,7 @@
 use crate::book::{answer, hex, Book};
 use crate::frames::{drop_next, frame, next, write, FrameReader, Header, Outbox, Reached};
 use crate::random::Random;
-use crate::trees;
+use crate::trees::{self, Manner};
 
 const ROOM: usize = 256;
 const CONTROL: u8 = 0;
@@ -220,7 +220,7 @@ impl Messages {
             return frame(&Header { ptype: random.byte() & 1, ..Header::control(session, stype, random.byte(), system) }, &[]);
         }
         let header = Header::data(session, random.percent(50), random.byte() & 0x7F, random.byte(), system);
-        frame(&header, &trees::text(random, false))
+        frame(&header, &trees::text(random, Manner { lean: false, wide: false }))
     }
 
     fn random_streams(&mut self) {

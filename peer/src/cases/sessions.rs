@@ -5,12 +5,13 @@ mod audited;
 mod by_hand;
 #[cfg(test)]
 mod doctored;
+mod wide;
 
 use crate::book::{hex, Book};
 use crate::frames::Header;
 use crate::random::Random;
 use crate::session::{Event, Phase, Session, Slot, Slots};
-use crate::trees;
+use crate::trees::{self, Manner};
 
 const DEVICE: u16 = 0x0123;
 const LIST_OF_NONE: &[u8] = &[0x01, 0x00];
@@ -52,6 +53,7 @@ pub fn make() -> Book {
     sessions.timers();
     sessions.random_runs();
     sessions.changed_by_hand();
+    sessions.wide();
     sessions.book.bad_records(&["m 00", "r 000000000000000000", "w 00 00 00 00 00 000000", "t 03 000000", "e", "w 0"]);
     sessions.book
 }
@@ -68,8 +70,12 @@ fn received(header: Header, text: &[u8]) -> Event {
     Event::Received { header, text: text.to_vec() }
 }
 
+fn came(w: bool, stream: u8, function: u8, system: u32, text: &[u8]) -> Event {
+    received(Header::data(DEVICE, w, stream, function, system), text)
+}
+
 fn data(w: bool, stream: u8, function: u8, system: u32) -> Event {
-    received(Header::data(DEVICE, w, stream, function, system), LIST_OF_NONE)
+    came(w, stream, function, system, LIST_OF_NONE)
 }
 
 /// A Deselect.req of which the response copies session ID and system bytes, and nothing else.
@@ -77,8 +83,12 @@ fn deselect_of(session: u16) -> Event {
     received(Header { session, byte2: 0x41, byte3: 0x51, ..header(3, 0x6171_8191) }, &[])
 }
 
+fn primary(w: bool, stream: u8, function: u8, text: &[u8]) -> Event {
+    Event::Primary { w, stream, function, text: text.to_vec() }
+}
+
 fn send(w: bool, stream: u8, function: u8) -> Event {
-    Event::Primary { w, stream, function, text: LIST_OF_NONE.to_vec() }
+    primary(w, stream, function, LIST_OF_NONE)
 }
 
 fn reply(system: u32) -> Event {
@@ -451,8 +461,6 @@ impl Sessions {
     }
 
     fn wish_orders(&mut self) {
-        let primary =
-            |w: bool, stream: u8, function: u8, text: &[u8]| Event::Primary { w, stream, function, text: text.to_vec() };
         self.name("a primary's stream and function: 23");
         self.selected();
         for (stream, function) in [(0, 1), (128, 1), (255, 1), (1, 0), (1, 2), (1, 254), (1, 255), (127, 253), (1, 1)] {
@@ -503,15 +511,16 @@ impl Sessions {
         self.selected();
         for (name, text) in texts {
             self.name(&format!("a wish's text: {name}"));
-            self.event(Event::Primary { w: false, stream: 1, function: 1, text: text.to_vec() });
-            if text.len() < 100 {
-                self.event(Event::Reply { system: 77, text: text.to_vec() });
-                self.events([
-                    data(true, 1, 1, 77),
-                    Event::Reply { system: 77, text: text.to_vec() },
-                    Event::Abort { system: 77 },
-                ]);
-            }
+            self.wished(text);
+        }
+    }
+
+    /// As a primary's text; where it is short also as that of replies.
+    fn wished(&mut self, text: &[u8]) {
+        self.event(Event::Primary { w: false, stream: 1, function: 1, text: text.to_vec() });
+        if text.len() < 100 {
+            self.event(Event::Reply { system: 77, text: text.to_vec() });
+            self.events([data(true, 1, 1, 77), Event::Reply { system: 77, text: text.to_vec() }, Event::Abort { system: 77 }]);
         }
     }
 
@@ -799,7 +808,7 @@ impl Sessions {
             0 => NOT_GOOD.to_vec(),
             1 => self.random.bytes(4),
             2 => vec![],
-            3 => trees::text(&mut self.random, false),
+            3 => trees::text(&mut self.random, Manner { lean: false, wide: false }),
             _ => LIST_OF_NONE.to_vec(),
         }
     }

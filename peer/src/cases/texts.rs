@@ -1,13 +1,15 @@
 //! Whole texts: judge, read, part, write, lean.
 
+mod wide;
+
 use crate::book::{answer, hex, Book};
 use crate::items::{item, item_head, A, B, BOOLEAN, KINDS, LIST};
 use crate::random::Random;
 use crate::texts::{lean_form, part, read, rows_of, write, write_lean};
-use crate::trees;
+use crate::trees::{self, Manner};
 
 const I2: u32 = 0o32;
-const UNKNOWN: u32 = 0o22;
+const UNKNOWN: u32 = 0o23;
 
 struct Texts {
     book: Book,
@@ -27,6 +29,7 @@ pub fn make() -> Book {
     texts.round_trips();
     texts.damaged();
     texts.random_rows();
+    texts.wide();
     texts.book.bad_records(&[
         "j 0",
         "j 4G",
@@ -116,7 +119,7 @@ impl Texts {
             ("`25 01 07`, lean `25 01 01`", &[0x25, 1, 7]),
             ("BOOLEAN bytes", &[0x27, 0, 0, 5, 0, 1, 2, 0x80, 0xFF]),
             ("two members", &[1, 2, 0x41, 1, 0x41, 0x69, 2, 0x80, 0x00]),
-            ("unknown code: 1", &[0x49, 0x00]),
+            ("unknown code: 1", &[0x4D, 0x00]),
             ("no length bytes: 2", &[0x40, 0x00]),
             ("no multiple: 3", &[0x01, 0x02, 0x69, 0x01, 0x00, 0x41, 0x00]),
             ("members at depth 16: 4", &too_deep),
@@ -293,57 +296,71 @@ impl Texts {
 
     fn round_trips(&mut self) {
         for case in 0..150 {
-            let text = trees::text(&mut self.random, case % 3 == 0);
-            let numbers = rows_of(&text).expect("a tree is good");
-            let lean = lean_form(&text).expect("a tree has one");
-            if numbers.len() > 255 {
-                continue;
-            }
-            self.book.name(&format!("there and back, {case}"));
-            self.judge(&text);
-            self.read(numbers.len(), &text);
-            self.write(lean.len() + 2, &numbers, &text);
-            self.lean(numbers.len(), lean.len(), &text);
-            self.judge(&lean);
-            for row in numbers.chunks(3).take(3) {
-                self.part(row[0], row[1], row[2], &text);
-            }
+            let text = trees::text(&mut self.random, Manner { lean: case % 3 == 0, wide: false });
+            self.there_and_back(&format!("there and back, {case}"), &text);
+        }
+    }
+
+    fn there_and_back(&mut self, name: &str, text: &[u8]) {
+        let numbers = rows_of(text).expect("a tree is good");
+        let lean = lean_form(text).expect("a tree has one");
+        if numbers.len() > 255 {
+            return;
+        }
+        self.book.name(name);
+        self.judge(text);
+        self.read(numbers.len(), text);
+        self.write(lean.len() + 2, &numbers, text);
+        self.lean(numbers.len(), lean.len(), text);
+        self.judge(&lean);
+        for row in numbers.chunks(3).take(3) {
+            self.part(row[0], row[1], row[2], text);
         }
     }
 
     fn damaged(&mut self) {
         for case in 0..250 {
-            let mut text = trees::text(&mut self.random, false);
-            let place = self.random.below(text.len());
-            if case % 4 == 0 {
-                text.truncate(place);
-            } else {
-                text[place] ^= 1 << self.random.below(8);
-            }
-            self.book.name(&format!("damaged, {case}"));
-            self.judge(&text);
-            self.read(6, &text);
-            self.lean(30, 24, &text);
+            let text = trees::text(&mut self.random, Manner { lean: false, wide: false });
+            self.damaged_text(&format!("damaged, {case}"), text, case % 4 == 0);
         }
+    }
+
+    /// A text that is cut, or has one bit changed.
+    fn damaged_text(&mut self, name: &str, mut text: Vec<u8>, cut: bool) {
+        let place = self.random.below(text.len());
+        if cut {
+            text.truncate(place);
+        } else {
+            text[place] ^= 1 << self.random.below(8);
+        }
+        self.book.name(name);
+        self.judge(&text);
+        self.read(6, &text);
+        self.lean(30, 24, &text);
     }
 
     fn random_rows(&mut self) {
         for case in 0..250 {
             self.book.name(&format!("random rows, {case}"));
-            let random = &mut self.random;
-            let content: Vec<u8> = (0..8).map(|_| random.pick(&[0x00, 0x01, 0x41, 0x7F, 0x80])).collect();
-            let count = random.below(5);
-            let mut numbers = vec![LIST, count as u32, 0];
-            for _ in 0..count + usize::from(random.percent(10)) {
-                let code = random.pick(&[LIST, A, B, BOOLEAN, I2, 0o54, 0o50, A, B, UNKNOWN]);
-                let length = if code == LIST { 0 } else { random.pick(&[0, 1, 2, 4, 8]) };
-                numbers.extend([code, length, random.below(7) as u32]);
-            }
-            if random.percent(10) {
-                numbers.pop();
-            }
-            let room = random.below(40);
-            self.write(room, &numbers, &content);
+            self.rows_of_codes(&[LIST, A, B, BOOLEAN, I2, 0o54, 0o50, A, B, UNKNOWN], &[0, 1, 2, 4, 8]);
         }
+    }
+
+    /// A list's row and rows of these codes and lengths, now and then one too many, or one not whole.
+    fn rows_of_codes(&mut self, codes: &[u32], lengths: &[u32]) {
+        let random = &mut self.random;
+        let content: Vec<u8> = (0..8).map(|_| random.pick(&[0x00, 0x01, 0x41, 0x7F, 0x80])).collect();
+        let count = random.below(5);
+        let mut numbers = vec![LIST, count as u32, 0];
+        for _ in 0..count + usize::from(random.percent(10)) {
+            let code = random.pick(codes);
+            let length = if code == LIST { 0 } else { random.pick(lengths) };
+            numbers.extend([code, length, random.below(7) as u32]);
+        }
+        if random.percent(10) {
+            numbers.pop();
+        }
+        let room = random.below(40);
+        self.write(room, &numbers, &content);
     }
 }

@@ -3,7 +3,7 @@ use borrow.Author.Needs.{needs}
 use mathlib.Core.Path.{_≡_, sym, _∙_}
 use Rattle.item.specs.Code.{kindOf}
 use Rattle.item.specs.declared.Kind.the-variants as K
-use Rattle.item.proofs.Codes.{plain-width}
+use Rattle.item.proofs.Codes.{plain-sizes}
 use Rattle.element.specs.Element.{placeOf}
 use Rattle.element.proofs.place_of.Statement.{statement}
 use Rattle.element.proofs.place_of.Tie as tie
@@ -17,13 +17,13 @@ enum-told c = search needs
 enum-told-2 : tie.Need-enum-told-2
 enum-told-2 c = search needs
 
-enum-known-width : tie.Need-enum-known-width
-enum-known-width c = search needs
+enum-known-s : tie.Need-enum-known-s
+enum-known-s c = search needs
 
 plain-place-requires : tie.Need-plain-place-requires
 plain-place-requires c κs =
-    let w = c .before .width .given .0 .0 in
-    plain-width _ w (sym (c .before .before .before .kind-of .ensures) ∙ c .before .width .given .1) .0
+    let b = c .before in
+    plain-sizes _ (b .s .given .0 .0) (sym (b .before .before .kind-of .ensures) ∙ b .s .given .1) .some
 
 returns : tie.Need-returns
 unfolding placeOf
@@ -41,7 +41,7 @@ returns-3 : tie.Need-returns-3
 unfolding placeOf
 returns-3 c =
     let b = c .before .before in
-    let e : kindOf _ ≡ K.Plain (b .width .given .0 .0) = sym (b .before .before .kind-of .ensures) ∙ b .width .given .1 in
+    let e : kindOf _ ≡ K.Plain (b .s .given .0 .0) = sym (b .before .before .kind-of .ensures) ∙ b .s .given .1 in
     rw e (c .plain-place .ensures)
 
 pub place-of-spec : {M : Type 1} → statement M
@@ -51,7 +51,7 @@ place-of-spec =
     kind-of-requires
     enum-told
     enum-told-2
-    enum-known-width
+    enum-known-s
     plain-place-requires
     returns
     returns-2

@@ -25,8 +25,8 @@ within t r e = go (kindOf (r .code)) (inside t r) refl e
     go : (k : Kind) (b : Bool) → inside t r ≡ b → partNumberAs k b ≡ 0 → r .place + r .length ≤ length t
     go K.Unknown b i z = absurd (omega arith)
     go K.List b i z = absurd (omega arith)
-    go (K.Plain w) true i z = leb-true (r .place + r .length) (length t) i
-    go (K.Plain w) false i z = absurd (omega arith)
+    go (K.Plain _) true i z = leb-true (r .place + r .length) (length t) i
+    go (K.Plain _) false i z = absurd (omega arith)
 
 part-number-requires : tie.Need-part-number-requires
 part-number-requires c κs = search needs
