@@ -338,22 +338,20 @@ impl Sessions {
         self.name("received primaries: S9F3, S9F5, S9F7, with W, without, again");
         self.selected();
         self.events([data(true, 2, 1, 50), data(false, 0, 1, 51), data(true, 1, 255, 52)]);
-        self.event(received(Header::data(DEVICE, true, 1, 1, 53), NOT_GOOD));
+        self.event(came(true, 1, 1, 53, NOT_GOOD));
         self.events([data(true, 1, 1, 54), data(false, 1, 1, 54), data(true, 1, 1, 54), data(true, 1, 3, 54)]);
         self.events([data(true, 1, 253, 55), data(false, 1, 253, 56), data(true, 1, 1, 0), data(true, 1, 1, u32::MAX)]);
         self.name("texts of received primaries");
         let too_deep = trees::nested(17, LIST_OF_NONE);
         let texts: [&[u8]; 8] = [&[], &[0x41, 1, 0x80], &[0xFD, 0], &[0x40, 0], &[0x69, 1, 0], &[1, 0, 0], &too_deep, &[2, 0, 0]];
         for (system, text) in (70..).zip(texts) {
-            self.event(received(Header::data(DEVICE, true, 1, 1, system), text));
+            self.event(came(true, 1, 1, system, text));
         }
-        self.event(received(Header::data(DEVICE, false, 1, 1, 80), &trees::nested(16, LIST_OF_NONE)));
+        self.event(came(false, 1, 1, 80, &trees::nested(16, LIST_OF_NONE)));
     }
 
     fn primary_orders(&mut self) {
-        let bad = |w: bool, stream: u8, function: u8, system: u32| {
-            received(Header::data(DEVICE, w, stream, function, system), NOT_GOOD)
-        };
+        let bad = |w: bool, stream: u8, function: u8, system: u32| came(w, stream, function, system, NOT_GOOD);
         self.name("flag before function before text before duplicate");
         self.selected();
         self.event(data(true, 1, 1, 90));
@@ -403,7 +401,7 @@ impl Sessions {
             data(false, 1, 0, 2),
         ]);
         self.name("its text is unread, its flag is not asked");
-        self.event(received(Header::data(DEVICE, false, 2, 2, 3), NOT_GOOD));
+        self.event(came(false, 2, 2, 3, NOT_GOOD));
         self.name("functions 253 and 254, stream 127");
         self.events([send(true, 127, 253), data(false, 127, 254, 5)]);
         self.name("function 0 on an empty table, and a slot taken is the lowest free one");
@@ -430,7 +428,7 @@ impl Sessions {
         self.selected();
         self.events((0..32).map(|place| data(true, 1, 1 + 2 * place as u8, 200 + place)));
         self.events([data(true, 1, 5, 300), data(false, 1, 5, 301), data(true, 1, 5, 231), data(true, 2, 5, 302)]);
-        self.event(received(Header::data(DEVICE, true, 1, 5, 303), NOT_GOOD));
+        self.event(came(true, 1, 5, 303, NOT_GOOD));
         self.name("the lowest free slot is taken");
         self.events([
             reply(210),
@@ -517,7 +515,7 @@ impl Sessions {
 
     /// As a primary's text; where it is short also as that of replies.
     fn wished(&mut self, text: &[u8]) {
-        self.event(Event::Primary { w: false, stream: 1, function: 1, text: text.to_vec() });
+        self.event(primary(false, 1, 1, text));
         if text.len() < 100 {
             self.event(Event::Reply { system: 77, text: text.to_vec() });
             self.events([data(true, 1, 1, 77), Event::Reply { system: 77, text: text.to_vec() }, Event::Abort { system: 77 }]);
@@ -654,7 +652,7 @@ impl Sessions {
         for (name, events) in [
             ("a primary without W", vec![data(false, 1, 1, 40)]),
             ("S9F1, S9F3, S9F5", vec![received(other, &[]), data(true, 2, 1, 40), data(true, 1, 255, 40)]),
-            ("S9F7", vec![received(Header::data(DEVICE, true, 1, 1, 40), NOT_GOOD)]),
+            ("S9F7", vec![came(true, 1, 1, 40, NOT_GOOD)]),
             ("a reply dropped", vec![send(true, 1, 1), data(true, 1, 2, 1), data(false, 1, 2, 40)]),
             ("stream 9 dropped", vec![data(true, 9, 1, 40)]),
             ("own primaries", vec![send(true, 1, 1), send(false, 1, 1)]),

@@ -19,21 +19,6 @@ loop-holds : tie.Need-loop-holds Inv-loop μ-loop
 unfolding allowsFirst
 loop-holds c = (search needs, refl)
 
-mul-allows-slot : tie.Need-mul-allows-slot Inv-loop μ-loop
-mul-allows-slot c = search needs
-
-array-copy-out-allows-slot : tie.Need-array-copy-out-allows-slot Inv-loop μ-loop
-array-copy-out-allows-slot c = search needs
-
-allows-slot-requires : tie.Need-allows-slot-requires Inv-loop μ-loop
-allows-slot-requires c κs = search needs
-
-add-i : tie.Need-add-i Inv-loop μ-loop
-add-i c = search needs
-
-loop-less : tie.Need-loop-less Inv-loop μ-loop
-loop-less c = search needs
-
 loop-again : tie.Need-loop-again Inv-loop μ-loop
 loop-again c =
     let l = c .before .before .before .before in (
@@ -56,15 +41,5 @@ returns-2 c =
 pub allows-slots-spec : {M : Type 1} → statement M
 allows-slots-spec =
     tie.close
-    (tie.spec
-    Inv-loop
-    μ-loop
-    loop-holds
-    mul-allows-slot
-    array-copy-out-allows-slot
-    allows-slot-requires
-    add-i
-    loop-less
-    loop-again
-    returns
-    returns-2)
+    (tie.spec Inv-loop μ-loop loop-holds (λ c. search needs) (λ c. search needs) (λ c κs. search needs) (λ c. search needs) (λ c. search needs)
+    loop-again returns returns-2)

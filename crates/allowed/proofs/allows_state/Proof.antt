@@ -4,18 +4,6 @@ use Rattle.allowed.specs.States.{allows}
 use Rattle.allowed.proofs.allows_state.Statement.{statement}
 use Rattle.allowed.proofs.allows_state.Tie as tie
 
-allows-link-requires : tie.Need-allows-link-requires
-allows-link-requires c κs = search needs
-
-allows-device-requires : tie.Need-allows-device-requires
-allows-device-requires c κs = search needs
-
-allows-open-requires : tie.Need-allows-open-requires
-allows-open-requires c κs = search needs
-
-allows-test-requires : tie.Need-allows-test-requires
-allows-test-requires c κs = search needs
-
 returns : tie.Need-returns
 unfolding allows
 returns c =
@@ -47,12 +35,4 @@ returns-4 c = rw (← c .before .allows-link .ensures, c .if1 .left)
 pub allows-state-spec : {M : Type 1} → statement M
 allows-state-spec =
     tie.close
-    (tie.spec
-    allows-link-requires
-    allows-device-requires
-    allows-open-requires
-    allows-test-requires
-    returns
-    returns-2
-    returns-3
-    returns-4)
+    (tie.spec (λ c κs. search needs) (λ c κs. search needs) (λ c κs. search needs) (λ c κs. search needs) returns returns-2 returns-3 returns-4)

@@ -5,9 +5,11 @@ use borrow.Author.Tests.{eq-eqb, ne-eqb}
 use borrow.Author.Needs.{needs}
 use lib.ListN.{getD}
 use native.Mathlib.Omega.{arith}
+use Rattle.wire.specs.Pick.{pick}
 use Rattle.wire.proofs.Pick.{first, second, told-so, equal, other}
-use Rattle.frame.specs.Header.{streamOf}
-use Rattle.device.specs.Rows.{primaryOf}
+use Rattle.frame.specs.Header.{wOf, streamOf}
+use Rattle.device.specs.Rows.{told, openedOf, primaryOf}
+use Rattle.device.specs.declared.Acted.{Acted}
 use Rattle.device.proofs.OfStream.{flag-known}
 use Rattle.device.proofs.primary.Statement.{statement}
 use Rattle.device.proofs.primary.Tie as tie
@@ -16,10 +18,24 @@ use Rattle.device.proofs.primary.Tie as tie
 abbrev start : tie.After-stream-of → tie.Start
 start m = m .before .before .before
 
+abbrev asked : tie.After-judge → tie.Start
+asked j = start (j .before .before .before .before)
+
 -- the flag of the stream, from where it was asked
 known : (m : tie.After-stream-of) {b : Bool} → getD (start m .args .d .flags) (m .stream-of .result) false ≡ b
     → getD (start m .args .d .flags) (streamOf (start m .args .h)) false ≡ b
 known m e = flag-known (start m .args .d .flags) (start m .args .h) (m .stream-of .ensures) e
+
+-- where flag, function and text are well, W decides
+good-text : (j : tie.After-judge) {x : Acted} → j .judge .result ≡ 0
+    → x ≡ pick (wOf (asked j .args .h)) (openedOf (asked j .args .d) (asked j .args .h)) (told 30 (asked j .args .d))
+    → x ≡ primaryOf (asked j .args .d) (asked j .args .n) (asked j .args .h) (asked j .args .text .now)
+unfolding primaryOf
+good-text j well p =
+    let f = j .before .before .before in
+    first _ _ _ (known (f .before) (f .if1 .taken))
+    (second _ _ _ (ne-eqb _ 255 (j .before .if2 .left))
+    (first _ _ _ (equal _ 0 (j .judge .ensures) well) p))
 
 returns : tie.Need-returns
 unfolding primaryOf
@@ -40,26 +56,10 @@ returns-2 c =
     (rw (c .complain2 .ensures))))
 
 returns-3 : tie.Need-returns-3
-unfolding primaryOf
-returns-3 c =
-    let j = c .before .before .before .before in
-    let f = j .before .before .before in
-    first _ _ _ (known (f .before) (f .if1 .taken))
-    (second _ _ _ (ne-eqb _ 255 (j .before .if2 .left))
-    (first _ _ _ (equal _ 0 (j .judge .ensures) (c .before .before .before .if3 .left))
-    (first _ _ _ (search told-so)
-    (rw (c .opened .ensures)))))
+returns-3 c = good-text (c .before .before .before .before) (c .before .before .before .if3 .left) (first _ _ _ (search told-so) (rw (c .opened .ensures)))
 
 returns-4 : tie.Need-returns-4
-unfolding primaryOf
-returns-4 c =
-    let j = c .before .before .before .before in
-    let f = j .before .before .before in
-    first _ _ _ (known (f .before) (f .if1 .taken))
-    (second _ _ _ (ne-eqb _ 255 (j .before .if2 .left))
-    (first _ _ _ (equal _ 0 (j .judge .ensures) (c .before .before .before .if3 .left))
-    (second _ _ _ (search told-so)
-    (rw (c .told-of .ensures)))))
+returns-4 c = good-text (c .before .before .before .before) (c .before .before .before .if3 .left) (second _ _ _ (search told-so) (rw (c .told-of .ensures)))
 
 returns-5 : tie.Need-returns-5
 unfolding primaryOf

@@ -8,18 +8,6 @@ use Rattle.element.specs.Element.{placeOf}
 use Rattle.element.proofs.place_of.Statement.{statement}
 use Rattle.element.proofs.place_of.Tie as tie
 
-kind-of-requires : tie.Need-kind-of-requires
-kind-of-requires c κs = search needs
-
-enum-told : tie.Need-enum-told
-enum-told c = search needs
-
-enum-told-2 : tie.Need-enum-told-2
-enum-told-2 c = search needs
-
-enum-known-s : tie.Need-enum-known-s
-enum-known-s c = search needs
-
 plain-place-requires : tie.Need-plain-place-requires
 plain-place-requires c κs =
     let b = c .before in
@@ -47,12 +35,4 @@ returns-3 c =
 pub place-of-spec : {M : Type 1} → statement M
 place-of-spec =
     tie.close
-    (tie.spec
-    kind-of-requires
-    enum-told
-    enum-told-2
-    enum-known-s
-    plain-place-requires
-    returns
-    returns-2
-    returns-3)
+    (tie.spec (λ c κs. search needs) (λ c. search needs) (λ c. search needs) (λ c. search needs) plain-place-requires returns returns-2 returns-3)

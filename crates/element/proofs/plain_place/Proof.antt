@@ -11,12 +11,6 @@ use Rattle.element.proofs.Places.{inside}
 use Rattle.element.proofs.plain_place.Statement.{statement}
 use Rattle.element.proofs.plain_place.Tie as tie
 
-allows-requires : tie.Need-allows-requires
-allows-requires c κs = search needs
-
-div-if2 : tie.Need-div-if2
-div-if2 c = search needs
-
 mul-at : tie.Need-mul-at
 mul-at c =
     let a = c .before .before .before .args in
@@ -47,4 +41,5 @@ returns-3 c =
 
 pub plain-place-spec : {M : Type 1} → statement M
 plain-place-spec =
-    tie.close (tie.spec allows-requires div-if2 mul-at returns returns-2 returns-3)
+    tie.close
+    (tie.spec (λ c κs. search needs) (λ c. search needs) mul-at returns returns-2 returns-3)

@@ -41,9 +41,6 @@ mul-high-part c = omega (arith, c .if2 .left)
 sub-high-part : tie.Need-sub-high-part
 sub-high-part c = omega (arith, c .if2 .left)
 
-high-part-requires : tie.Need-high-part-requires
-high-part-requires c κs = search needs
-
 returns-3 : tie.Need-returns-3
 unfolding fitsPlain
 returns-3 c =
@@ -52,12 +49,6 @@ returns-3 c =
     let h : (a .n - a .j - 2 * a .m) / 256 ^ a .j < a .v = rw (d .high-part .ensures) at (c .if3 .taken) in
     let over = above (a .v) (a .j) (a .n - a .j - 2 * a .m) h in
     rw (lt-leb (a .j + a .v * 256 ^ a .j + 2 * a .m) (a .n) (omega (arith, over, d .before .before .if1 .left, d .before .if2 .left)))
-
-high-part-requires-2 : tie.Need-high-part-requires-2
-high-part-requires-2 c κs = search needs
-
-is-allowed-requires : tie.Need-is-allowed-requires
-is-allowed-requires c κs = search needs
 
 returns-4 : tie.Need-returns-4
 unfolding fitsPlain
@@ -89,15 +80,5 @@ returns-6 c =
 pub fits-plain-spec : {M : Type 1} → statement M
 fits-plain-spec =
     tie.close
-    (tie.spec
-    returns
-    returns-2
-    mul-high-part
-    sub-high-part
-    high-part-requires
-    returns-3
-    high-part-requires-2
-    is-allowed-requires
-    returns-4
-    returns-5
-    returns-6)
+    (tie.spec returns returns-2 mul-high-part sub-high-part (λ c κs. search needs) returns-3 (λ c κs. search needs) (λ c κs. search needs) returns-4
+    returns-5 returns-6)

@@ -50,9 +50,6 @@ returns-3 c =
     let some = b .before .before .if1 .left in
     sym (enough (a .s) (a .n) some (b .if2 .left) ∙ rw (c .if3 .taken, e) (ne-eqb (a .n) 0 some))
 
-rem-result : tie.Need-rem-result
-rem-result c = search needs
-
 returns-4 : tie.Need-returns-4
 returns-4 c =
     let b = c .before .before .before in
@@ -60,4 +57,6 @@ returns-4 c =
     sym (enough (a .s) (a .n) (b .before .before .if1 .left) (b .if2 .left))
 
 pub allows-spec : {M : Type 1} → statement M
-allows-spec = tie.close (tie.spec returns returns-2 returns-3 rem-result returns-4)
+allows-spec =
+    tie.close
+    (tie.spec returns returns-2 returns-3 (λ c. search needs) returns-4)

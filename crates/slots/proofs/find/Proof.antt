@@ -15,29 +15,11 @@ Inv-loop q slots i₀ i = (i ≤ 32) × (foundAt q slots ≡ i + foundAt q (drop
 abbrev μ-loop : tie.MeasureT-loop
 μ-loop q slots i₀ i = 32 - i
 
-loop-holds : tie.Need-loop-holds Inv-loop μ-loop
-loop-holds c = search needs
-
-mul-is-match : tie.Need-mul-is-match Inv-loop μ-loop
-mul-is-match c = search needs
-
-array-copy-out-is-match : tie.Need-array-copy-out-is-match Inv-loop μ-loop
-array-copy-out-is-match c = search needs
-
-is-match-requires : tie.Need-is-match-requires Inv-loop μ-loop
-is-match-requires c κs = search needs
-
 returns : tie.Need-returns Inv-loop μ-loop
 returns c =
     let l = c .before .before .before .before in
     let a = l .before .args in
     omega (arith, first-here (passes (a .q)) free (a .t1) (l .loop .i) (omega arith) (sym (c .before .is-match .ensures) ∙ c .if1 .taken))
-
-add-i : tie.Need-add-i Inv-loop μ-loop
-add-i c = search needs
-
-loop-less : tie.Need-loop-less Inv-loop μ-loop
-loop-less c = search needs
 
 loop-again : tie.Need-loop-again Inv-loop μ-loop
 loop-again c =
@@ -55,15 +37,5 @@ returns-2 c =
 pub find-spec : {M : Type 1} → statement M
 find-spec =
     tie.close
-    (tie.spec
-    Inv-loop
-    μ-loop
-    loop-holds
-    mul-is-match
-    array-copy-out-is-match
-    is-match-requires
-    returns
-    add-i
-    loop-less
-    loop-again
-    returns-2)
+    (tie.spec Inv-loop μ-loop (λ c. search needs) (λ c. search needs) (λ c. search needs) (λ c κs. search needs) returns (λ c. search needs)
+    (λ c. search needs) loop-again returns-2)

@@ -28,35 +28,8 @@ within t r e = go (kindOf (r .code)) (inside t r) refl e
     go (K.Plain _) true i z = leb-true (r .place + r .length) (length t) i
     go (K.Plain _) false i z = absurd (omega arith)
 
-part-number-requires : tie.Need-part-number-requires
-part-number-requires c κs = search needs
-
-cast-from : tie.Need-cast-from
-cast-from c = search needs
-
-cast-to : tie.Need-cast-to
-cast-to c = search needs
-
-add-to : tie.Need-add-to
-add-to c = search needs
-
-sub-result : tie.Need-sub-result
-sub-result c = search needs
-
-part-result-start : tie.Need-part-result-start
-part-result-start c = search needs
-
 part-result-end : tie.Need-part-result-end
 part-result-end c = omega (arith, within _ _ (sym (c .before .before .before .part-number .ensures) ∙ c .before .before .if1 .taken))
-
-sub-result-2 : tie.Need-sub-result-2
-sub-result-2 c = search needs
-
-part-result-start-2 : tie.Need-part-result-start-2
-part-result-start-2 c = search needs
-
-part-result-end-2 : tie.Need-part-result-end-2
-part-result-end-2 c = search needs
 
 returns : tie.Need-returns
 unfolding partOf
@@ -72,16 +45,5 @@ returns-2 c = (rw (← c .before .before .part-number .ensures, ne-eqb _ _ (c .b
 pub part-spec : {M : Type 1} → statement M
 part-spec =
     tie.close
-    (tie.spec
-    part-number-requires
-    cast-from
-    cast-to
-    add-to
-    sub-result
-    part-result-start
-    part-result-end
-    sub-result-2
-    part-result-start-2
-    part-result-end-2
-    returns
-    returns-2)
+    (tie.spec (λ c κs. search needs) (λ c. search needs) (λ c. search needs) (λ c. search needs) (λ c. search needs) (λ c. search needs)
+    part-result-end (λ c. search needs) (λ c. search needs) (λ c. search needs) returns returns-2)

@@ -1,7 +1,7 @@
 //! States changed by hand: the list behind 14 broken and mended, fresh numbers at their end and behind those held, and
 //! Deselect.req with slots at any place.
 
-use super::{control, data, each_event, received, reply, send, Sessions, DEVICE, NOT_GOOD};
+use super::{came, control, data, each_event, primary, received, reply, send, Sessions, DEVICE, NOT_GOOD};
 use crate::frames::Header;
 use crate::session::{Change, Event, Linktest, Phase, Slot, CLOSED, FREE};
 
@@ -312,7 +312,7 @@ impl Sessions {
             ("S9F1", received(other, &[])),
             ("S9F3", unknown_stream()),
             ("S9F5", data(false, 1, 255, 50)),
-            ("S9F7", received(Header::data(DEVICE, true, 1, 1, 50), NOT_GOOD)),
+            ("S9F7", came(true, 1, 1, 50, NOT_GOOD)),
         ] {
             self.name(&format!("the next own number wraps: {name}"));
             self.selected();
@@ -337,7 +337,7 @@ impl Sessions {
         self.name("the next own number stays where no fresh one is taken");
         self.one_each_open();
         self.by_hand(Change::Next(LAST));
-        self.events([Event::Primary { w: true, stream: 1, function: 1, text: NOT_GOOD.to_vec() }, send(true, 1, 2)]);
+        self.events([primary(true, 1, 1, NOT_GOOD), send(true, 1, 2)]);
         self.events([Event::Linktest, Event::T3 { system: 9 }, control(5, 9), control(8, 9), data(false, 9, 255, 9), reply(40)]);
         self.events([data(true, 1, 1, 41), Event::Abort { system: 41 }, control(3, 9), Event::T8, send(true, 1, 1)]);
         self.events([Event::Connect, Event::Linktest]);
