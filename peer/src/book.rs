@@ -1,16 +1,21 @@
 //! A program's lines in and the lines it should print, with a count of each kind of case.
 
+use crate::items::Form;
 use crate::session::{Row, LINES, ROWS};
 use std::collections::BTreeMap;
+use std::fmt::Display;
+
+type Counts<T> = BTreeMap<T, usize>;
 
 #[derive(Default)]
 pub struct Book {
     pub stdin: Vec<u8>,
     pub stdout: String,
-    kinds: BTreeMap<String, usize>,
-    pub numbers: BTreeMap<u32, usize>,
-    pub rows: BTreeMap<Row, usize>,
-    pub broken: BTreeMap<&'static str, usize>,
+    kinds: Counts<String>,
+    pub numbers: Counts<u32>,
+    pub lean_numbers: Counts<u32>,
+    pub rows: Counts<Row>,
+    pub broken: Counts<&'static str>,
 }
 
 pub fn hex(bytes: &[u8]) -> String {
@@ -68,8 +73,17 @@ impl Book {
 
     /// One more answer of a number.
     pub fn number(&mut self, number: u32) {
+        self.number_as(Form::Good, number);
+    }
+
+    /// One more answer of a number to what is asked of a text of this form.
+    pub fn number_as(&mut self, form: Form, number: u32) {
+        let numbers = match form {
+            Form::Good => &mut self.numbers,
+            Form::Lean => &mut self.lean_numbers,
+        };
         if number != 0 {
-            *self.numbers.entry(number).or_default() += 1;
+            *numbers.entry(number).or_default() += 1;
         }
     }
 
@@ -97,20 +111,23 @@ pub fn answer(result: &Result<usize, u32>) -> String {
     }
 }
 
+/// A part of the page: what each program has of something.
+fn table<T: Display>(books: &[(&str, Book)], head: &str, counts: impl Fn(&Book) -> &Counts<T>) -> String {
+    let mut lines = format!("\n| program | {head} |\n|---|---|---|\n");
+    for (name, book) in books {
+        for (what, count) in counts(book) {
+            lines += &format!("| {name} | {what} | {count} |\n");
+        }
+    }
+    lines
+}
+
 /// The page that tells how many cases there are.
 pub fn counts(books: &[(&str, Book)]) -> String {
-    let mut page = String::from("# Cases\n\n| program | record or line | cases |\n|---|---|---|\n");
-    for (name, book) in books {
-        for (kind, cases) in &book.kinds {
-            page += &format!("| {name} | {kind} | {cases} |\n");
-        }
-    }
-    page += "\n| program | number | answers |\n|---|---|---|\n";
-    for (name, book) in books {
-        for (number, answers) in &book.numbers {
-            page += &format!("| {name} | {number} | {answers} |\n");
-        }
-    }
+    let mut page = String::from("# Cases\n");
+    page += &table(books, "record or line | cases", |book| &book.kinds);
+    page += &table(books, "number | answers", |book| &book.numbers);
+    page += &table(books, "number, where a lean text is asked for | answers", |book| &book.lean_numbers);
     page += "\n| row of the session table | events |\n|---|---|\n";
     for (row, says) in ROWS {
         let events: usize = books.iter().filter_map(|(_, book)| book.rows.get(row)).sum();

@@ -8,6 +8,26 @@ pub const C2: u32 = 0o22;
 
 pub const MOST_TEXT: usize = 32_000;
 pub const MOST_DEPTH: usize = 16;
+pub const MOST_LENGTH_BYTES: usize = 3;
+
+/// What is asked of a text. Lean asks more than good at two places: of the length bytes, and of a BOOLEAN's.
+#[derive(Clone, Copy, PartialEq, Eq, Debug, Default)]
+pub enum Form {
+    #[default]
+    Good,
+    Lean,
+}
+
+impl Form {
+    pub const BOTH: [Form; 2] = [Form::Good, Form::Lean];
+
+    pub fn name(self) -> &'static str {
+        match self {
+            Form::Good => "good",
+            Form::Lean => "lean",
+        }
+    }
+}
 
 /// What the elements of a content are.
 #[derive(Clone, Copy, PartialEq, Eq)]
@@ -73,8 +93,21 @@ pub fn length_refusal(kind: &Kind, length: u64, depth: usize) -> Option<u32> {
     }
 }
 
+/// Whether a form allows a length to be said with so many length bytes.
+pub fn length_bytes_are_allowed(form: Form, length_bytes: usize, length: u64) -> bool {
+    match form {
+        Form::Good => (fewest(length)..=MOST_LENGTH_BYTES).contains(&length_bytes),
+        Form::Lean => length_bytes == fewest(length),
+    }
+}
+
 pub fn content_byte_is_good(code: u32, byte: u8) -> bool {
     code != A || byte <= 0x7F
+}
+
+/// Whether a form allows a content byte.
+pub fn content_byte_is_allowed(form: Form, code: u32, byte: u8) -> bool {
+    content_byte_is_good(code, byte) && (form == Form::Good || code != BOOLEAN || byte <= 0x01)
 }
 
 /// The fewest length bytes that hold a length.

@@ -1,6 +1,7 @@
 //! The capture lister.
 
 use crate::frames::{head, text_part, Head, Header, BEFORE_TEXT};
+use crate::items::Form;
 use crate::reader::{rows_in, Reader, Status};
 use std::fmt::Write;
 
@@ -50,7 +51,7 @@ fn is_read(header: &Header) -> bool {
 }
 
 fn list_text(bytes: &[u8], n: usize, lines: &mut String) -> Result<(), Refusal> {
-    let (status, through) = Reader::fresh(n).feed(bytes);
+    let (status, through) = Reader::fresh(Form::Good, n).feed(bytes);
     let good = match status {
         Status::Refused(_) => through.saturating_sub(1),
         Status::More | Status::Complete => through,

@@ -11,6 +11,7 @@ mod lister;
 mod random;
 mod reader;
 mod session;
+mod sizes;
 mod texts;
 mod trees;
 
@@ -76,10 +77,19 @@ mod tests {
         }
     }
 
+    fn expected_for_lean(name: &str) -> Vec<u32> {
+        match name {
+            "feeds" => expected(name),
+            "texts" => (1..=6).collect(),
+            _ => vec![],
+        }
+    }
+
     #[test]
     fn every_number_row_and_line_is_reached() {
         for (name, book) in all_books() {
             assert_eq!(book.numbers.into_keys().collect::<Vec<_>>(), expected(name), "{name}");
+            assert_eq!(book.lean_numbers.into_keys().collect::<Vec<_>>(), expected_for_lean(name), "{name}");
             assert!(book.stdin.len() < MOST_LINES, "{name}");
             let (rows, lines) = if name == "sessions" { (session::ROWS.len(), session::LINES.len()) } else { (0, 0) };
             assert_eq!((book.rows.len(), book.broken.len()), (rows, lines), "{name}");

@@ -35,6 +35,13 @@ impl Random {
         from[self.below(from.len())]
     }
 
+    pub fn with_a_bit_changed(&mut self, bytes: &[u8]) -> Vec<u8> {
+        let mut changed = bytes.to_vec();
+        let place = self.below(bytes.len());
+        changed[place] ^= 1 << self.below(8);
+        changed
+    }
+
     /// The bytes cut into pieces, some of them empty.
     pub fn pieces<'a>(&mut self, mut bytes: &'a [u8]) -> Vec<&'a [u8]> {
         let longest = 1 + self.below(bytes.len() + 1);

@@ -1,7 +1,7 @@
 //! The session, passive end.
 
 use crate::frames::{frame, Header};
-use crate::items::{item, B};
+use crate::items::{item, Form, B};
 use crate::reader::number_of;
 use std::collections::BTreeSet;
 use std::fmt::Write;
@@ -463,7 +463,7 @@ impl Session {
             self.complain(3, header, Row::StreamUnknown)
         } else if function == LAST_FUNCTION {
             self.complain(5, header, Row::FunctionUnknown)
-        } else if number_of(text) != 0 {
+        } else if number_of(Form::Good, text) != 0 {
             self.complain(7, header, Row::TextNotGood)
         } else if !header.w() {
             quiet(30, Row::PrimaryNoW)
@@ -503,7 +503,7 @@ impl Session {
 }
 
 fn text_refusal(text: &[u8]) -> Option<u32> {
-    Some(number_of(text)).filter(|&number| number != 0)
+    Some(number_of(Form::Good, text)).filter(|&number| number != 0)
 }
 
 #[cfg(test)]

@@ -1,11 +1,11 @@
 //! Whole texts: rows, parts, the writer and the lean form.
 
-use crate::items::{content_byte_is_good, fewest, item_head, kind_of, length_refusal, BOOLEAN, LIST, MOST_TEXT};
+use crate::items::{content_byte_is_good, fewest, item_head, kind_of, length_refusal, Form, BOOLEAN, LIST, MOST_TEXT};
 use crate::reader::{number_of, rows_in};
 
 /// A good text's rows as numbers, three a row, or its number.
 pub fn rows_of(text: &[u8]) -> Result<Vec<u32>, u32> {
-    match number_of(text) {
+    match number_of(Form::Good, text) {
         0 => Ok(rows_in(text).iter().flat_map(|row| [row.kind.code, row.length as u32, row.place as u32]).collect()),
         number => Err(number),
     }
@@ -146,6 +146,35 @@ mod tests {
             assert!(lean.len() <= text.len());
             assert_eq!(lean_form(&lean), Ok(lean.clone()));
             assert_eq!(rows_in(&lean).len(), rows_in(&text).len());
+        }
+    }
+
+    fn is_its_own_lean_form(text: &[u8]) -> bool {
+        lean_form(text).is_ok_and(|lean| lean == text)
+    }
+
+    #[test]
+    fn all_short_texts_are_lean_where_they_are_their_own_lean_form() {
+        let alphabet = [0x00, 0x01, 0x02, 0x03, 0x25, 0x26, 0x41, 0x42, 0x43, 0x49, 0x69];
+        for size in 0..=5 {
+            for case in 0..alphabet.len().pow(size) {
+                let text: Vec<u8> = (0..size).map(|place| alphabet[case / alphabet.len().pow(place) % alphabet.len()]).collect();
+                assert_eq!(number_of(Form::Lean, &text) == 0, is_its_own_lean_form(&text), "{text:02X?}");
+            }
+        }
+    }
+
+    #[test]
+    fn a_length_byte_too_many_or_a_boolean_above_01_is_good_and_not_lean() {
+        let mut random = Random::new(7);
+        for case in 0..2_000 {
+            let text = trees::text(&mut random, Manner { lean: case % 2 == 0, wide: case >= 1_000 });
+            assert_eq!(number_of(Form::Lean, &text) == 0, is_its_own_lean_form(&text), "{text:02X?}");
+            assert!([0, 5, 6].contains(&number_of(Form::Lean, &text)));
+            let lean = if case % 8 == 0 { trees::long_lean_text(&mut random) } else { lean_form(&text).expect("a tree is good") };
+            let longer = trees::spelled_longer(&mut random, &lean);
+            assert_eq!(number_of(Form::Lean, &lean), 0);
+            assert_eq!((number_of(Form::Good, &longer), number_of(Form::Lean, &longer)), (0, 5), "{longer:02X?}");
         }
     }
 }

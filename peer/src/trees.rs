@@ -1,7 +1,10 @@
 //! Good texts of random trees.
 
-use crate::items::{fewest, item_head, kind_of, length_is_allowed, Kind, A, C2, KINDS, KINDS_OF_01, LIST, MOST_DEPTH};
+use crate::items::{fewest, item_head, kind_of, length_is_allowed, Kind};
+use crate::items::{A, BOOLEAN, C2, KINDS, KINDS_OF_01, LIST, MOST_DEPTH};
 use crate::random::Random;
+use crate::reader::rows_in;
+use crate::texts::lean_form;
 
 /// Whether each length has the fewest length bytes, and whether C2 is among the codes.
 #[derive(Clone, Copy)]
@@ -75,4 +78,47 @@ pub fn plain_text(random: &mut Random, size: usize) -> Vec<u8> {
 /// Lists of one member down to this depth, then an item.
 pub fn nested(depth: usize, inner: &[u8]) -> Vec<u8> {
     [[0x01, 0x01].repeat(depth - 1), inner.to_vec()].concat()
+}
+
+/// Lists of one member, then one of so many members, which have this depth.
+pub fn lists_down_to(depth: usize, members: u8) -> Vec<u8> {
+    nested(depth - 1, &[0x01, members])
+}
+
+/// A lean text.
+pub fn lean_text(random: &mut Random, wide: bool) -> Vec<u8> {
+    lean_form(&text(random, Manner { lean: false, wide })).expect("a tree is good")
+}
+
+/// A lean text of two to four members, of sizes at which one length byte no longer suffices.
+pub fn long_lean_text(random: &mut Random) -> Vec<u8> {
+    let mut bytes = Vec::new();
+    let members = 2 + random.below(3);
+    for _ in 0..members {
+        let size = random.pick(&[2, 3, 256, 257, 259, 260]);
+        bytes.extend(plain_text(random, size));
+    }
+    let depth = random.pick(&[2, 15, 16]);
+    [lists_down_to(depth, members as u8), bytes].concat()
+}
+
+/// A list of BOOLEAN items, with bytes above 01 and length bytes too many here and there.
+pub fn truths(random: &mut Random) -> Vec<u8> {
+    let members = 1 + random.below(3);
+    let mut bytes = vec![0x01, members as u8];
+    for _ in 0..members {
+        let length = random.below(4);
+        bytes.extend(item_head(BOOLEAN, random.pick(&[1, 1, 1, 1, 1, 2]), length as u64));
+        bytes.extend((0..length).map(|_| random.pick(&[0, 0, 0, 1, 1, 1, 2, 0xFF])));
+    }
+    bytes
+}
+
+/// A lean text, but for one item of it, which has a length byte too many.
+pub fn spelled_longer(random: &mut Random, lean: &[u8]) -> Vec<u8> {
+    let rows = rows_in(lean);
+    let row = &rows[random.below(rows.len())];
+    let least = fewest(row.length);
+    let head = item_head(row.kind.code, least + 1, row.length);
+    [&lean[..row.place - least - 1], &head, &lean[row.place..]].concat()
 }

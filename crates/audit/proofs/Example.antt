@@ -13,7 +13,7 @@ use Rattle.frame.specs.declared.Header.{Header}
 use Rattle.slots.specs.Slots.{noSlots, noTest, passes}
 use Rattle.fresh.specs.Fresh.{isHeld, oneMore, freshOf}
 use Rattle.fresh.proofs.Fresh.{first-here}
-use Rattle.text.specs.Text.{judgedOf}
+use Rattle.text.specs.Text.{judgedAs}
 use Rattle.levels.specs.Levels.{total, stackOf, levelsOf, cleanOf}
 use Rattle.follow.specs.Fits.{fitsItems}
 use Rattle.reader.specs.State.{fresh}
@@ -97,7 +97,7 @@ unfolding link.connectOf link.selectReqOf link.separateReqOf device.dataOf devic
 the-rows = tt
 
 the-text : Unit {0}
-unfolding judgedOf total stackOf levelsOf cleanOf fitsItems fresh readsPhase allowsFrame allowsEnd readerAllows status eat fedOf
+unfolding judgedAs total stackOf levelsOf cleanOf fitsItems fresh readsPhase allowsFrame allowsEnd readerAllows status eat fedOf
 the-text = tt
 
 the-run : Unit {0}

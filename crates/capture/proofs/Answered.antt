@@ -8,6 +8,7 @@ use Rattle.frame.specs.declared.Header.{Header}
 use Rattle.frames.specs.Feed.{endOf, fedOf as frameFed}
 use Rattle.frames.specs.declared.Event.{Event}
 use Rattle.frames.specs.declared.Fed.{Fed as FrameFed}
+use Rattle.item.specs.declared.Form.the-variants.{Good as good}
 use Rattle.reader.specs.State.{fresh, readerOf}
 use Rattle.reader.proofs.Fresh.{fresh-status}
 use Rattle.reader.specs.Feed.{status, statusOf, fedOf}
@@ -16,7 +17,8 @@ use Rattle.reader.specs.declared.Fed.{Fed}
 use Rattle.reader.specs.declared.Phase.the-variants.{Length}
 use Rattle.reader.specs.declared.Reader.{Reader}
 use Rattle.lines.specs.declared.Line.the-variants.{Nothing, Message, Item}
-use Rattle.capture.specs.Capture.{told, behind, oneMore, withFrames, withText, byAnswer, byEvent, settledBy, itemAt, isData, textByte, headerCame, settled, fedByte, byteTold, endedBy, lastLine}
+use Rattle.capture.specs.Capture.{told, behind, oneMore, withFrames, withText, byAnswer, byEvent, settledBy}
+use Rattle.capture.specs.Capture.{itemAt, isData, textByte, headerCame, settled, fedByte, byteTold, endedBy, lastLine}
 use Rattle.capture.specs.declared.Lister.{Lister}
 
 -- ---- the frame reader's answer
@@ -44,7 +46,7 @@ module _ (l : Lister) (b : ℕ) where
   unlisted-as h = rw h
 
 module _ (l : Lister) (h : Header) (n : ℕ) (t : Lister) where
-  pub data-as : (r : Reader) (s a : Answer) → isData h ≡ true → r ≡ readerOf (fresh n) → t ≡ withText l r true → s ≡ status (fresh n) → s ≡ a
+  pub data-as : (r : Reader) (s a : Answer) → isData h ≡ true → r ≡ readerOf (fresh good n) → t ≡ withText l r true → s ≡ status (fresh good n) → s ≡ a
       → headerCame l h n ≡ behind (Message h n) (byAnswer a Nothing t)
   unfolding headerCame
   data-as r s a d p q m k = rw (d, ← m, k, q, p)
@@ -54,8 +56,8 @@ module _ (l : Lister) (h : Header) (n : ℕ) (t : Lister) where
   other-as d q = rw (d, q)
 
 -- a fresh reader answers the fresh state's status
-pub fresh-answer : (n : ℕ) (r : Reader) (a : Answer) → r ≡ readerOf (fresh n) → a ≡ statusOf r → a ≡ status (fresh n)
-fresh-answer n r a e q = q ∙ ap statusOf e ∙ fresh-status n
+pub fresh-answer : (n : ℕ) (r : Reader) (a : Answer) → r ≡ readerOf (fresh good n) → a ≡ statusOf r → a ≡ status (fresh good n)
+fresh-answer n r a e q = q ∙ ap statusOf e ∙ fresh-status good n
 
 -- ---- a byte
 

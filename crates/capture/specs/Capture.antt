@@ -9,6 +9,7 @@ use Rattle.frames.specs.Feed.{endOf, fedOf as frameFed}
 use Rattle.frames.specs.declared.Event.{Event}
 use Rattle.frames.specs.declared.Event.the-variants as E
 use Rattle.frames.specs.declared.FrameReader.{FrameReader}
+use Rattle.item.specs.declared.Form.the-variants.{Good as good}
 use Rattle.reader.specs.State.{fresh, readerOf}
 use Rattle.reader.specs.Feed.{status, fedOf}
 use Rattle.reader.specs.declared.Answer.{Answer}
@@ -48,7 +49,7 @@ stopped l = record { frames = l .frames; text = l .text; listed = l .listed; sto
 -- before the stream: a reader before a frame, and no text
 unfoldable pub freshLister : Lister
 freshLister =
-    record { frames = frameReaderOf (head []); text = readerOf (fresh 0); listed = false; stopped = false; count = 0; bytes = 0 }
+    record { frames = frameReaderOf (head []); text = readerOf (fresh good 0); listed = false; stopped = false; count = 0; bytes = 0 }
 
 -- ---- a byte
 
@@ -84,7 +85,7 @@ isData h = cond (eqb (h .ptype) 0) (eqb (h .stype) 0) false
 unfoldable pub headerCame : Lister → Header → ℕ → Told
 headerCame l h n =
     behind (Message h n)
-    (cond (isData h) (byAnswer (status (fresh n)) Nothing (withText l (readerOf (fresh n)) true)) (told (withText l (l .text) false) Nothing Nothing))
+    (cond (isData h) (byAnswer (status (fresh good n)) Nothing (withText l (readerOf (fresh good n)) true)) (told (withText l (l .text) false) Nothing Nothing))
 
 abbrev pub byEvent : Event → ℕ → Lister → Told
 byEvent E.More b l = told l Nothing Nothing

@@ -1,10 +1,12 @@
 ghost use mathlib.Core.Path.{_≡_};
 ghost use mathlib.Core.Bool.{true};
 ghost use Rattle.reader.specs.Feed.{allows};
-ghost use Rattle.capture.specs.Capture.{told, oneMore, withFrames, withText, freshLister, refusedBy, itemAt, textByte, isData, headerCame, settled, fedByte, byteTold, endedBy, lastLine};
+ghost use Rattle.capture.specs.Capture.{told, oneMore, withFrames, withText, freshLister, refusedBy, itemAt};
+ghost use Rattle.capture.specs.Capture.{textByte, isData, headerCame, settled, fedByte, byteTold, endedBy, lastLine};
 use frame::Header;
 use frames::Event;
 use frames::FrameReader;
+use item::Form;
 use lines::Line;
 use reader::Answer;
 use reader::Phase;
@@ -89,7 +91,7 @@ pub fn fresh_lister() -> Lister
 {
     Lister {
         frames: frames::fresh_reader(),
-        text: reader::fresh_reader(0),
+        text: reader::fresh_reader(Form::Good, 0),
         listed: false,
         stopped: false,
         count: 0,
@@ -171,7 +173,7 @@ fn header_came(l: Lister, h: Header, n: usize) -> Told
     let m = Line::Message(h, n);
     let text = l.text;
     if is_data(h) {
-        let fresh = reader::fresh_reader(n);
+        let fresh = reader::fresh_reader(Form::Good, n);
         let t = with_text(l, fresh, true);
         let answer = reader::status_of(fresh);
         match answer {

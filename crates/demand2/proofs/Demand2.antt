@@ -12,7 +12,8 @@ use lib.Seq.{take-at}
 use Rattle.wire.specs.Longest.{longest}
 use Rattle.wire.specs.Number.{AtMost}
 use Rattle.item.specs.Code.{L, kindOf}
-use Rattle.item.specs.Item.{Tree, good, lean, Content, Says, Good, Lean, meaningOf, leanOf}
+use Rattle.item.specs.Item.{Tree, Content, Says, Good, Lean, meaningOf, leanOf}
+use Rattle.item.specs.declared.Form.the-variants.{Good as good, Lean as lean}
 use Rattle.item.proofs.Codes.{of-plain, plain-not-list}
 use Rattle.item.proofs.Laws as laws
 use Rattle.item.proofs.Reading as reading

@@ -4,7 +4,8 @@ use mathlib.Core.List.{List, [], _++_}
 use mathlib.Core.Path.{_≡_}
 use lib.ListN.{length, drop}
 use Rattle.item.specs.Code.{L}
-use Rattle.item.specs.Item.{Tree, good, lean, Says, meaningOf}
+use Rattle.item.specs.Item.{Tree, Says, meaningOf}
+use Rattle.item.specs.declared.Form.the-variants.{Good as good, Lean as lean}
 use Rattle.rows.specs.Row.{rowsOf, partAt}
 use Rattle.rows.specs.Rows.{Has, rowsOfText}
 use Rattle.rows.specs.declared.Row.{Row}

@@ -1,14 +1,17 @@
--- Document 01's starred byte lines, as one table, lines of ours for document 02's wide characters, as another, and what is right of a line.
-use Prim.Native.Nat.{ℕ, _≤_}
+-- Document 01's starred byte lines, as one table, lines of ours for document 02's wide characters and for its lean-only links, as others, and what is
+-- right of a line.
+use Prim.Native.Nat.{ℕ, zero, suc, _≤_}
 use mathlib.Core.List.{List, [], _∷_, _++_}
 use mathlib.Core.Path.{_≡_}
 use lib.ListN.{length, drop}
 use Rattle.item.specs.Code.{A, BOOLEAN}
-use Rattle.item.specs.Item.{plain, Tree, one, good, Says, leanOf}
+use Rattle.item.specs.Item.{plain, Tree, one, Says, leanOf}
+use Rattle.item.specs.declared.Form.{Form}
+use Rattle.item.specs.declared.Form.the-variants.{Good as good}
 use Rattle.reader.specs.State.{readerOf, fresh}
 use Rattle.reader.specs.Feed.{fedOf}
 use Rattle.reader.specs.declared.Answer.{Answer}
-use Rattle.reader.specs.declared.Answer.the-variants.{Complete, Refusal}
+use Rattle.reader.specs.declared.Answer.the-variants.{More, Complete, Refusal}
 use Rattle.wire.specs.declared.Counted.the-variants.{Is}
 use Rattle.demand2.specs.Calls.{writeLean}
 
@@ -64,6 +67,32 @@ wideLines =
     ∷ line 7 (0x01 ∷ 0x02 ∷ 0x49 ∷ 0x00 ∷ 0x49 ∷ []) (Refusal 5) 5
     ∷ []
 
+-- so many lists of one member, one in the other, and then b
+abbrev pub nested : ℕ → List ℕ → List ℕ
+nested zero b = b
+nested (suc d) b = 0x01 ∷ 0x01 ∷ nested d b
+
+-- told lean: a length with too many bytes is refused with 5 before its last byte, a BOOLEAN byte above 01 with 6, and 258 bytes left for one item alone,
+-- at depth 16, with 5
+abbrev pub leanOnlyLines : List Line
+leanOnlyLines =
+    line 5 (0x43 ∷ []) (Refusal 5) 1
+    ∷ line 263 (0x01 ∷ 0x02 ∷ 0x42 ∷ []) More 3
+    ∷ line 263 (0x01 ∷ 0x02 ∷ 0x42 ∷ 0x00 ∷ []) (Refusal 5) 4
+    ∷ line 514 (0x02 ∷ []) (Refusal 5) 1
+    ∷ line 515 (0x02 ∷ []) More 1
+    ∷ line 3 (0x25 ∷ 0x01 ∷ 0x01 ∷ []) Complete 3
+    ∷ line 3 (0x25 ∷ 0x01 ∷ 0x02 ∷ []) (Refusal 6) 3
+    ∷ line 258 (0x21 ∷ []) (Refusal 5) 1
+    ∷ line 258 (0x22 ∷ []) (Refusal 5) 1
+    ∷ line 258 (0x01 ∷ []) More 1
+    ∷ line 288 (nested 15 []) (Refusal 5) 30
+    ∷ line 289 (nested 15 []) More 30
+    ∷ line 290 (nested 14 (0x01 ∷ 0x02 ∷ 0x21 ∷ [])) More 31
+    ∷ line 290 (nested 14 (0x01 ∷ 0x02 ∷ 0x21 ∷ 0x00 ∷ [])) (Refusal 5) 32
+    ∷ line 290 (nested 14 (0x01 ∷ 0x02 ∷ 0x01 ∷ [])) (Refusal 5) 31
+    ∷ []
+
 -- the bytes spell this tree, its lean form is the one given, and the call writes it
 abbrev pub LeanRight : LeanForm → List ℕ → Type 0
 LeanRight not-given b = Unit {0}
@@ -72,9 +101,13 @@ LeanRight (given w l) b =
     × ((rows out : List ℕ) → 3 ≤ length rows → length l ≤ length out
     → (writeLean b rows out .0 ≡ Is (length l)) × (writeLean b rows out .2 ≡ l ++ drop (length l) out))
 
--- a fresh reader that is told N and fed the bytes answers so, and has consumed them through that byte
+-- what a fresh reader that is told the form and N and fed the bytes answers, and how many it has consumed
+abbrev pub outcome : Form → Line → Answer × ℕ
+outcome f l = (fedOf (readerOf (fresh f (l .size))) (l .bytes) .answer, fedOf (readerOf (fresh f (l .size))) (l .bytes) .consumed)
+
+-- it answers so, and has consumed them through that byte
+abbrev pub Answered : Form → Line → Type 0
+Answered f l = outcome f l ≡ (l .answer, l .at)
+
 abbrev pub Right : Line → Type 0
-Right l =
-    (fedOf (readerOf (fresh (l .size))) (l .bytes) .answer ≡ l .answer)
-    × (fedOf (readerOf (fresh (l .size))) (l .bytes) .consumed ≡ l .at)
-    × LeanRight (l .lean) (l .bytes)
+Right l = Answered good l × LeanRight (l .lean) (l .bytes)

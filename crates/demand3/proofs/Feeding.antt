@@ -7,16 +7,17 @@ use native.Mathlib.Omega.{arith}
 use lib.ListN.{length, length-append}
 use Rattle.wire.specs.Lists.{joined}
 use Rattle.wire.specs.Number.{AtMost}
+use Rattle.item.specs.declared.Form.{Form}
 use Rattle.reader.specs.State.{State, state, stateOf, readerOf, refused}
 use Rattle.reader.specs.Step.{step}
 use Rattle.reader.specs.Feed.{allows, status, fed, after, eat, start, fedOf}
-use Rattle.reader.proofs.Rest.{Live}
 use Rattle.reader.specs.declared.Phase.the-variants.{Format}
 use Rattle.reader.specs.declared.Reader.{Reader}
 use Rattle.reader.specs.declared.Fed.{Fed}
 use Rattle.reader.specs.declared.Answer.{Answer}
 use Rattle.reader.specs.declared.Answer.the-variants.{More, Complete, Refusal}
 use Rattle.reader.proofs.Allowed.{state-reader, live-allows, refused-allows}
+use Rattle.reader.proofs.Fresh.{none-live}
 use Rattle.demand3.specs.Feeds.{feeds, answerTo}
 use Rattle.demand3.proofs.Along.{Stands, Along, nothing, never, stands, falls, along-step}
 
@@ -25,17 +26,16 @@ pub record Holds (s : State) : Type 0 where
   pub is : stateOf (readerOf s) ≡ s
   pub allowed : allows (readerOf s) ≡ true
 
-refused-holds : (n e : ℕ) (s : State) → 1 ≤ e → e ≤ 6 → s ≡ refused n e → Holds s
-refused-holds n e s h k q = rw q (record { is = state-reader (refused n e) (omega arith); allowed = refused-allows n e h k })
+refused-holds : (f : Form) (n e : ℕ) (s : State) → 1 ≤ e → e ≤ 6 → s ≡ refused f n e → Holds s
+refused-holds f n e s h k q = rw q (record { is = state-reader (refused f n e) (omega arith); allowed = refused-allows f n e h k })
 
-pub along-holds : (n : ℕ) (q : List ℕ) (s : State) → Along n q s → Holds s
-along-holds n q s (nothing z e f) =
-    let l : Live (state n 0 [] Format)
-    = record { bounded = omega arith; within = omega arith; shallow = omega arith; at = tt; follows = ([], (omega arith, refl)) } in
-    rw f (record { is = state-reader (state n 0 [] Format) (omega arith); allowed = live-allows (state n 0 [] Format) l })
-along-holds n q s (never e f g) = refused-holds n 5 s (omega arith) (omega arith) f
-along-holds n q s (stands st) = record { is = state-reader s (st .live .shallow); allowed = live-allows s (st .live) }
-along-holds n q s (falls q₁ b e x l y z w h k f) = refused-holds n e s h k f
+pub along-holds : (f : Form) (n : ℕ) (q : List ℕ) (s : State) → Along f n q s → Holds s
+along-holds f n q s (nothing z e h₀) =
+    let s₀ = state f n 0 [] Format in
+    rw h₀ (record { is = state-reader s₀ (omega arith); allowed = live-allows s₀ (none-live f n z) })
+along-holds f n q s (never e h₀ g) = refused-holds f n 5 s (omega arith) (omega arith) h₀
+along-holds f n q s (stands st) = record { is = state-reader s (st .live .shallow); allowed = live-allows s (st .live) }
+along-holds f n q s (falls q₁ b e x l y z w h k h₀) = refused-holds f n e s h k h₀
 
 -- complete and a refusal are not more
 pub complete-ends : Complete ≡ More → ⊥
@@ -45,62 +45,62 @@ pub refusal-ends : (k : ℕ) → Refusal k ≡ More → ⊥
 refusal-ends k e = let x : _≡_ {A = ℕ} 0 1 = cc in omega arith
 
 -- along the way only a state that stands goes on
-more-stands : (n : ℕ) (q : List ℕ) (s : State) → Along n q s → status s ≡ More → Stands n q s
+more-stands : (f : Form) (n : ℕ) (q : List ℕ) (s : State) → Along f n q s → status s ≡ More → Stands f n q s
 unfolding status
-more-stands n q s (nothing z e f) m = absurd (complete-ends (sym (ap status f) ∙ m))
-more-stands n q s (never e f g) m = absurd (refusal-ends 5 (sym (ap status f) ∙ m))
-more-stands n q s (stands st) m = st
-more-stands n q s (falls q₁ b e x l y z w h k f) m = absurd (refusal-ends e (sym (ap status f) ∙ m))
+more-stands f n q s (nothing z e h₀) m = absurd (complete-ends (sym (ap status h₀) ∙ m))
+more-stands f n q s (never e h₀ g) m = absurd (refusal-ends 5 (sym (ap status h₀) ∙ m))
+more-stands f n q s (stands st) m = st
+more-stands f n q s (falls q₁ b e x l y z w h k h₀) m = absurd (refusal-ends e (sym (ap status h₀) ∙ m))
 
 -- as far as the reader goes along w, from where it stands after q: through q′, with r left over, and with nothing left over where it goes on
-pub record Went (n : ℕ) (q w : List ℕ) : Type 0 where
+pub record Went (f : Form) (n : ℕ) (q w : List ℕ) : Type 0 where
   pub through : List ℕ
   pub over : List ℕ
   pub all : w ≡ through ++ over
   pub to : State
-  pub along : Along n (q ++ through) to
+  pub along : Along f n (q ++ through) to
   pub last : status to ≡ More → over ≡ []
 
 -- ---- a piece
 
-eat-goes : (p : List ℕ) (n : ℕ) (q : List ℕ) (s : State) (k : ℕ) → Along n q s → status s ≡ More → AtMost 0xFF p
-    → (w : Went n q p) × (eat s k p ≡ fed (status (w .to)) (k + length (w .through)) (readerOf (w .to)))
+eat-goes : (p : List ℕ) (f : Form) (n : ℕ) (q : List ℕ) (s : State) (k : ℕ) → Along f n q s → status s ≡ More → AtMost 0xFF p
+    → (w : Went f n q p) × (eat s k p ≡ fed (status (w .to)) (k + length (w .through)) (readerOf (w .to)))
 unfolding eat
-eat-goes [] n q s k a m b = (
-  record { through = []; over = []; all = refl; to = s; along = subst (λ (x : List ℕ). Along n x s) (sym (append-nil q)) a; last = λ _. refl },
+eat-goes [] f n q s k a m b = (
+  record { through = []; over = []; all = refl; to = s; along = subst (λ (x : List ℕ). Along f n x s) (sym (append-nil q)) a; last = λ _. refl },
   let e : k ≡ k + 0 = omega arith in
       rw (← e, m),
 )
-eat-goes (b ∷ p) n q s k a m (byte, bytes) = go (status (step s b)) refl (eat-goes p n (q ++ (b ∷ [])) (step s b) (k + 1) next)
+eat-goes (b ∷ p) f n q s k a m (byte, bytes) = go (status (step s b)) refl (eat-goes p f n (q ++ (b ∷ [])) (step s b) (k + 1) next)
   where
-    next : Along n (q ++ (b ∷ [])) (step s b)
-    next = along-step n q s b (more-stands n q s a m) m byte
+    next : Along f n (q ++ (b ∷ [])) (step s b)
+    next = along-step f n q s b (more-stands f n q s a m) m byte
 
-    stop : (status (step s b) ≡ More → ⊥) → Went n q (b ∷ p)
+    stop : (status (step s b) ≡ More → ⊥) → Went f n q (b ∷ p)
     stop h = record { through = b ∷ []; over = p; all = refl; to = step s b; along = next; last = λ e. absurd (h e) }
 
     Rec : Type 0
-    Rec = (w : Went n (q ++ (b ∷ [])) p) × (eat (step s b) (k + 1) p ≡ fed (status (w .to)) (k + 1 + length (w .through)) (readerOf (w .to)))
+    Rec = (w : Went f n (q ++ (b ∷ [])) p) × (eat (step s b) (k + 1) p ≡ fed (status (w .to)) (k + 1 + length (w .through)) (readerOf (w .to)))
 
     eaten : Fed
     eaten = after (status (step s b)) (step s b) (k + 1) (eat (step s b) (k + 1) p)
 
     Goal : Type 0
-    Goal = (w : Went n q (b ∷ p)) × (eaten ≡ fed (status (w .to)) (k + length (w .through)) (readerOf (w .to)))
+    Goal = (w : Went f n q (b ∷ p)) × (eaten ≡ fed (status (w .to)) (k + length (w .through)) (readerOf (w .to)))
 
     go : (x : Answer) → status (step s b) ≡ x → (status (step s b) ≡ More → AtMost 0xFF p → Rec) → Goal
     go More e rec =
-        let (w, f) = rec e bytes in (
+        let (w, h₁) = rec e bytes in (
           record {
             through = b ∷ w .through;
             over = w .over;
             all = ap (λ (x : List ℕ). b ∷ x) (w .all);
             to = w .to;
-            along = subst (λ (x : List ℕ). Along n x (w .to)) (append-assoc q (b ∷ []) (w .through)) (w .along);
+            along = subst (λ (x : List ℕ). Along f n x (w .to)) (append-assoc q (b ∷ []) (w .through)) (w .along);
             last = w .last;
           },
           let z : k + 1 + length (w .through) ≡ k + suc (length (w .through)) = omega arith in
-              rw (e, ← z) f,
+              rw (e, ← z) h₁,
         )
     go Complete e rec = (stop (λ m. complete-ends (sym e ∙ m)), rw e)
     go (Refusal x) e rec = (stop (λ m. refusal-ends x (sym e ∙ m)), rw e)
@@ -147,18 +147,18 @@ ended-all (p ∷ ps) s h d =
 pub on-eats : (s : State) (p : List ℕ) → Holds s → status s ≡ More → fedOf (readerOf s) p ≡ eat s 0 p
 on-eats s p h m = fed-starts s p More h m ∙ ap (λ (x : State). eat x 0 p) (h .is)
 
-pub feed-answers : (n : ℕ) (q : List ℕ) (s : State) (p : List ℕ) → Along n q s → AtMost 0xFF p
+pub feed-answers : (f : Form) (n : ℕ) (q : List ℕ) (s : State) (p : List ℕ) → Along f n q s → AtMost 0xFF p
     → fedOf (readerOf s) p .answer ≡ answerTo (status s) p (status (stateOf (fedOf (readerOf s) p .reader)))
-feed-answers n q s p a b = go (status s) refl p b
+feed-answers f n q s p a b = go (status s) refl p b
   where
     h : Holds s
-    h = along-holds n q s a
+    h = along-holds f n q s a
 
     go : (x : Answer) → status s ≡ x → (p : List ℕ) → AtMost 0xFF p
         → fedOf (readerOf s) p .answer ≡ answerTo (status s) p (status (stateOf (fedOf (readerOf s) p .reader)))
     go More m p b =
-        let (w, f) = eat-goes p n q s 0 a m b in
-        rw (on-eats s p h m ∙ f, m, along-holds n (q ++ w .through) (w .to) (w .along) .is)
+        let (w, h₁) = eat-goes p f n q s 0 a m b in
+        rw (on-eats s p h m ∙ h₁, m, along-holds f n (q ++ w .through) (w .to) (w .along) .is)
     go Complete e [] b = rw (fed-starts s [] Complete h e, h .is, e)
     go Complete e (x ∷ p) b = rw (fed-starts s (x ∷ p) Complete h e, e)
     go (Refusal k) e p b = rw (fed-starts s p (Refusal k) h e, h .is, e)
@@ -171,13 +171,13 @@ at-most-right : (m : ℕ) (x y : List ℕ) → AtMost m (x ++ y) → AtMost m y
 at-most-right m [] y a = a
 at-most-right m (b ∷ x) y (a, as′) = at-most-right m x y as′
 
-abbrev stay : (n : ℕ) (q w : List ℕ) (s : State) → Along n q s → (status s ≡ More → ⊥) → Went n q w
-stay n q w s a h =
-    record { through = []; over = w; all = refl; to = s; along = subst (λ (x : List ℕ). Along n x s) (sym (append-nil q)) a; last = λ e. absurd (h e) }
+abbrev stay : (f : Form) (n : ℕ) (q w : List ℕ) (s : State) → Along f n q s → (status s ≡ More → ⊥) → Went f n q w
+stay f n q w s a h =
+    record { through = []; over = w; all = refl; to = s; along = subst (λ (x : List ℕ). Along f n x s) (sym (append-nil q)) a; last = λ e. absurd (h e) }
 
 -- two ways, one behind the other
-abbrev after-all : (n : ℕ) (q x y : List ℕ) (w : Went n q x) → w .over ≡ [] → Went n (q ++ w .through) y → Went n q (x ++ y)
-after-all n q x y w none v =
+abbrev after-all : (f : Form) (n : ℕ) (q x y : List ℕ) (w : Went f n q x) → w .over ≡ [] → Went f n (q ++ w .through) y → Went f n q (x ++ y)
+after-all f n q x y w none v =
     record {
       through = w .through ++ v .through;
       over = v .over;
@@ -186,12 +186,12 @@ after-all n q x y w none v =
           ∙ ap (λ (z : List ℕ). w .through ++ z) (v .all)
           ∙ sym (append-assoc (w .through) (v .through) (v .over));
       to = v .to;
-      along = subst (λ (z : List ℕ). Along n z (v .to)) (append-assoc q (w .through) (v .through)) (v .along);
+      along = subst (λ (z : List ℕ). Along f n z (v .to)) (append-assoc q (w .through) (v .through)) (v .along);
       last = v .last;
     }
 
-abbrev before-end : (n : ℕ) (q x y : List ℕ) (w : Went n q x) → (status (w .to) ≡ More → ⊥) → Went n q (x ++ y)
-before-end n q x y w h =
+abbrev before-end : (f : Form) (n : ℕ) (q x y : List ℕ) (w : Went f n q x) → (status (w .to) ≡ More → ⊥) → Went f n q (x ++ y)
+before-end f n q x y w h =
     record {
       through = w .through;
       over = w .over ++ y;
@@ -206,34 +206,35 @@ feeds-behind : (r r′ : Reader) (p : List ℕ) (ps : List (List ℕ)) (x : Answ
     → fedOf r p ≡ fed x k r′ → feeds r′ ps ≡ (m, r″) → feeds r (p ∷ ps) ≡ (k + m, r″)
 feeds-behind r r′ p ps x k m r″ e f = rw (e, f)
 
-pub feeds-go : (ps : List (List ℕ)) (n : ℕ) (q : List ℕ) (s : State) → Along n q s → AtMost 0xFF (joined ps)
-    → (w : Went n q (joined ps)) × (feeds (readerOf s) ps ≡ (length (w .through), readerOf (w .to)))
-feeds-go [] n q s a b =
-    (record { through = []; over = []; all = refl; to = s; along = subst (λ (x : List ℕ). Along n x s) (sym (append-nil q)) a; last = λ _. refl }, refl)
-feeds-go (p ∷ ps) n q s a b = go (going s) (λ q′ s′ a′. feeds-go ps n q′ s′ a′ (at-most-right 0xFF p (joined ps) b))
+pub feeds-go : (ps : List (List ℕ)) (f : Form) (n : ℕ) (q : List ℕ) (s : State) → Along f n q s → AtMost 0xFF (joined ps)
+    → (w : Went f n q (joined ps)) × (feeds (readerOf s) ps ≡ (length (w .through), readerOf (w .to)))
+feeds-go [] f n q s a b =
+    (record { through = []; over = []; all = refl; to = s; along = subst (λ (x : List ℕ). Along f n x s) (sym (append-nil q)) a; last = λ _. refl }, refl)
+feeds-go (p ∷ ps) f n q s a b = go (going s) (λ q′ s′ a′. feeds-go ps f n q′ s′ a′ (at-most-right 0xFF p (joined ps) b))
   where
     Rec : Type 0
-    Rec = (q′ : List ℕ) (s′ : State) → Along n q′ s′ → (w : Went n q′ (joined ps)) × (feeds (readerOf s′) ps ≡ (length (w .through), readerOf (w .to)))
+    Rec = (q′ : List ℕ) (s′ : State) → Along f n q′ s′ → (w : Went f n q′ (joined ps)) × (feeds (readerOf s′) ps ≡ (length (w .through), readerOf (w .to)))
 
     Goal : Type 0
-    Goal = (w : Went n q (p ++ joined ps)) × (feeds (readerOf s) (p ∷ ps) ≡ (length (w .through), readerOf (w .to)))
+    Goal = (w : Went f n q (p ++ joined ps)) × (feeds (readerOf s) (p ∷ ps) ≡ (length (w .through), readerOf (w .to)))
 
-    next : (w : Went n q p) → fedOf (readerOf s) p ≡ fed (status (w .to)) (0 + length (w .through)) (readerOf (w .to)) → Going (w .to) → Rec → Goal
-    next w f (on m) rec =
+    next : (w : Went f n q p) → fedOf (readerOf s) p ≡ fed (status (w .to)) (0 + length (w .through)) (readerOf (w .to)) → Going (w .to) → Rec → Goal
+    next w h₁ (on m) rec =
         let (v, g) = rec (q ++ w .through) (w .to) (w .along) in
-        let e : 0 + length (w .through) + length (v .through) ≡ length (w .through ++ v .through) = omega (arith, length-append (w .through) (v .through)) in (
-          after-all n q p (joined ps) w (w .last m) v,
-          feeds-behind (readerOf s) (readerOf (w .to)) p ps _ _ _ _ f g ∙ ap (λ (x : ℕ). (x, readerOf (v .to))) e,
+        let e : 0 + length (w .through) + length (v .through) ≡ length (w .through ++ v .through)
+        = omega (arith, length-append (w .through) (v .through)) in (
+          after-all f n q p (joined ps) w (w .last m) v,
+          feeds-behind (readerOf s) (readerOf (w .to)) p ps _ _ _ _ h₁ g ∙ ap (λ (x : ℕ). (x, readerOf (v .to))) e,
         )
-    next w f (off d h) rec =
+    next w h₁ (off d h) rec =
         let e : 0 + length (w .through) + 0 ≡ length (w .through) = omega arith in (
-          before-end n q p (joined ps) w h,
-          feeds-behind (readerOf s) (readerOf (w .to)) p ps _ _ _ _ f (ended-all ps (w .to) (along-holds n (q ++ w .through) (w .to) (w .along)) d)
+          before-end f n q p (joined ps) w h,
+          feeds-behind (readerOf s) (readerOf (w .to)) p ps _ _ _ _ h₁ (ended-all ps (w .to) (along-holds f n (q ++ w .through) (w .to) (w .along)) d)
               ∙ ap (λ (x : ℕ). (x, readerOf (w .to))) e,
         )
 
     go : Going s → Rec → Goal
-    go (off d h) rec = (stay n q (p ++ joined ps) s a h, ended-all (p ∷ ps) s (along-holds n q s a) d)
+    go (off d h) rec = (stay f n q (p ++ joined ps) s a h, ended-all (p ∷ ps) s (along-holds f n q s a) d)
     go (on m) rec =
-        let (w, f) = eat-goes p n q s 0 a m (at-most-left 0xFF p (joined ps) b) in
-        next w (on-eats s p (along-holds n q s a) m ∙ f) (going (w .to)) rec
+        let (w, h₁) = eat-goes p f n q s 0 a m (at-most-left 0xFF p (joined ps) b) in
+        next w (on-eats s p (along-holds f n q s a) m ∙ h₁) (going (w .to)) rec

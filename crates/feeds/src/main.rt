@@ -1,5 +1,6 @@
 use bytes::scan;
 use hex::Said;
+use item::Form;
 use libc::STDIN_FILENO;
 use libc::STDOUT_FILENO;
 use reader::Answer;
@@ -36,11 +37,11 @@ fn bad(r: Reader) -> Reader {
 }
 
 // N (4)
-fn fresh(r: Reader, b: &[u8]) -> Reader {
+fn fresh(r: Reader, form: Form, b: &[u8]) -> Reader {
     if b.len() < 4 {
         return bad(r);
     }
-    let next = reader::fresh_reader(records::word_at(b, 0) as usize);
+    let next = reader::fresh_reader(form, records::word_at(b, 0) as usize);
     put(b"fresh");
     status(reader::status_of(next));
     put(b"\n");
@@ -57,6 +58,13 @@ fn piece(r: Reader, b: &[u8]) -> Reader {
     f.reader
 }
 
+fn form_in(kind: u8) -> Form {
+    match kind {
+        0 => Form::Good,
+        _ => Form::Lean,
+    }
+}
+
 fn phase_in(kind: u8, code: u32, left: usize, value: usize) -> Phase {
     match kind {
         0 => Phase::Format,
@@ -66,32 +74,33 @@ fn phase_in(kind: u8, code: u32, left: usize, value: usize) -> Phase {
     }
 }
 
-// N (4), read (4), level (4), phase (1), code (4), left (4), value (4), sixteen counts (4 each)
+// form (1), N (4), read (4), level (4), phase (1), code (4), left (4), value (4), sixteen counts (4 each)
 fn reader_in(b: &[u8], counts: &[u8]) -> Reader {
-    let left = records::word_at(b, 17) as usize;
-    let value = records::word_at(b, 21) as usize;
+    let left = records::word_at(b, 18) as usize;
+    let value = records::word_at(b, 22) as usize;
     let phase = phase_in(
-        records::byte_at(b, 12),
-        records::word_at(b, 13),
+        records::byte_at(b, 13),
+        records::word_at(b, 14),
         left,
         value,
     );
     let mut awaited = [0u32; 16];
     records::words_in(counts, &mut awaited);
     Reader {
-        size: records::word_at(b, 0) as usize,
-        read: records::word_at(b, 4) as usize,
-        level: records::word_at(b, 8) as usize,
+        form: form_in(records::byte_at(b, 0)),
+        size: records::word_at(b, 1) as usize,
+        read: records::word_at(b, 5) as usize,
+        level: records::word_at(b, 9) as usize,
         awaited,
         phase,
     }
 }
 
 fn state(r: Reader, b: &[u8]) -> Reader {
-    if b.len() < 89 {
+    if b.len() < 90 {
         return bad(r);
     }
-    let next = reader_in(b, &b[25..]);
+    let next = reader_in(b, &b[26..]);
     put(b"state");
     if reader::allows_state(next) {
         put(b"\tallowed");
@@ -105,7 +114,8 @@ fn state(r: Reader, b: &[u8]) -> Reader {
 
 fn record(r: Reader, letter: u8, b: &[u8]) -> Reader {
     match letter {
-        b'f' => fresh(r, b),
+        b'f' => fresh(r, Form::Good, b),
+        b'l' => fresh(r, Form::Lean, b),
         b'p' => piece(r, b),
         b's' => state(r, b),
         _ => bad(r),
@@ -137,7 +147,7 @@ fn line(r: Reader, s: &[u8]) -> Reader {
 }
 
 fn lines(s: &[u8]) {
-    let mut r = reader::fresh_reader(0);
+    let mut r = reader::fresh_reader(Form::Good, 0);
     let mut at: usize = 0;
     while at < s.len() {
         let end = scan::find(s, at, s.len(), b'\n');

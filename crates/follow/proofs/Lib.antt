@@ -1,4 +1,6 @@
 pub mod Follow
+pub mod Leading
+pub mod Gap
 pub mod Grammar
 pub mod Sizes
 pub mod Exist

@@ -2,10 +2,10 @@
 use Prim.Native.Nat.{ℕ, suc, _+_, _*_, _-_, _/_, _^_, _≤_, _<_}
 use mathlib.Core.Path.{_≡_, refl, sym, ap, _∙_}
 use mathlib.Core.Bool.{Bool, true, false}
-use native.Mathlib.Nat.{one-le-pow, zero-lt-suc, pow-succ', div-div-eq-div-mul, le-div-iff-mul-le, div-lt-iff-lt-mul}
+use native.Mathlib.Nat.{le-mul-of-pos-right, one-le-pow, zero-lt-suc, pow-succ', div-div-eq-div-mul, le-div-iff-mul-le, div-lt-iff-lt-mul}
 use native.Mathlib.Omega.{arith}
-use borrow.Author.Tests.{le-leb, lt-leb, leb-true, leb-false, lt-ltb, le-ltb, ltb-true, ltb-false}
-use lib.Dec.{leb, ltb}
+use borrow.Author.Tests.{eq-eqb, ne-eqb, eqb-true, eqb-false, le-leb, lt-leb, leb-true, leb-false, lt-ltb, le-ltb}
+use lib.Dec.{eqb, leb, ltb}
 
 -- two bytes an item
 pub halves : (n m : ℕ) → leb m (n / 2) ≡ leb (2 * m) n
@@ -58,3 +58,32 @@ module _ (v k : ℕ) where
 
   pub more-bytes : (v / 256 ^ k ≡ 0 → ⊥) → ltb v (256 ^ k) ≡ false
   more-bytes e = le-ltb v (256 ^ k) (omega (arith, at-most 1 k v (omega (arith, e))))
+
+-- v with bytes 00 behind it is nothing exactly where v is
+module _ (v k : ℕ) where
+  pub none-product : v ≡ 0 → v * 256 ^ k ≡ 0
+  none-product e = rw e (omega arith)
+
+  pub product-none : v * 256 ^ k ≡ 0 → v ≡ 0
+  product-none e = omega (arith, le-mul-of-pos-right v (one-le-pow k 256 (zero-lt-suc 255)))
+
+pub none-both : (m v k : ℕ) (b : Bool) → eqb (m + v) 0 ≡ b → eqb (m + v * 256 ^ k) 0 ≡ b
+none-both m v k true e =
+    let z : m + v ≡ 0 = eqb-true (m + v) 0 e in
+    eq-eqb (m + v * 256 ^ k) 0 (omega (arith, none-product v k (omega arith)))
+none-both m v k false e =
+    let z : m + v ≡ 0 → ⊥ = eqb-false (m + v) 0 e in
+    ne-eqb (m + v * 256 ^ k) 0 (λ q. z (omega (arith, product-none v k (omega arith))))
+
+-- a content and items behind it, two bytes each
+pub holds : (left m v j : ℕ) → m ≤ left / 2 → leb v ((left - 2 * m) / 256 ^ j) ≡ leb (v * 256 ^ j + 2 * m) left
+holds left m v j h = go (leb v ((left - 2 * m) / 256 ^ j)) refl
+  where
+    go : (b : Bool) → leb v ((left - 2 * m) / 256 ^ j) ≡ b → b ≡ leb (v * 256 ^ j + 2 * m) left
+    go true e = sym (le-leb (v * 256 ^ j + 2 * m) left (omega (arith, h, at-most v j (left - 2 * m) (leb-true v ((left - 2 * m) / 256 ^ j) e))))
+    go false e = sym (lt-leb (v * 256 ^ j + 2 * m) left (omega (arith, h, above v j (left - 2 * m) (leb-false v ((left - 2 * m) / 256 ^ j) e))))
+
+-- j length bytes come off first
+pub room : (n j k m : ℕ) (b : Bool) → j ≤ n → leb (k + 2 * m) (n - j) ≡ b → leb (j + k + 2 * m) n ≡ b
+room n j k m true h e = le-leb (j + k + 2 * m) n (omega (arith, leb-true (k + 2 * m) (n - j) e))
+room n j k m false h e = lt-leb (j + k + 2 * m) n (omega (arith, leb-false (k + 2 * m) (n - j) e))

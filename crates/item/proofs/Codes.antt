@@ -1,7 +1,7 @@
 -- Laws of the table of codes: a rule that a computed test finds in every entry holds of every code, a number that no entry has is unknown; and which
 -- lengths a code allows.
-use Prim.Native.Nat.{ℕ, zero, suc, _*_, _%_, _^_, _∣_, _<_, _≤_}
-use native.Mathlib.Nat.{pow-suc, mod-one, zero-lt-suc, dvd-of-mod-eq-zero, mod-eq-zero-of-dvd, dvd-mul-left-of-dvd, le-of-dvd}
+use Prim.Native.Nat.{ℕ, zero, suc, _*_, _%_, _∣_, _<_, _≤_}
+use native.Mathlib.Nat.{mod-one, zero-lt-suc, dvd-of-mod-eq-zero, mod-eq-zero-of-dvd, dvd-mul-left-of-dvd, le-of-dvd}
 use native.Mathlib.Omega.{arith}
 use mathlib.Core.Path.{_≡_, refl, sym, subst}
 use mathlib.Core.Bool.{Bool, true, false, cond, not, _&&_, _||_}
@@ -131,13 +131,6 @@ pub allowed-eights : (c n : ℕ) → isPlain (kindOf c) ≡ true → allowed c (
 unfolding allowed
 allowed-eights c n p =
     of-plain (λ k. T (inEight k) → allowedIn k (n * 8) ≡ true) (kindOf c) p (λ s t. eights s (in-eight s t) n) (kept (λ _. inEight) c tt tt)
-
--- so a length whose last byte is 00 is allowed
-pub allowed-low : (c v j : ℕ) → isPlain (kindOf c) ≡ true → 0 < j → allowed c (v * 256 ^ j) ≡ true
-allowed-low c v zero p h = absurd (omega arith)
-allowed-low c v (suc j) p h =
-    let e : v * 256 ^ suc j ≡ v * 256 ^ j * 32 * 8 = rw (pow-suc 256 j) (omega arith) in
-    rw e (allowed-eights c (v * 256 ^ j * 32) p)
 
 -- of every code but C2 the least length is the width
 abbrev ordinary : ℕ → Kind → Bool

@@ -1,7 +1,7 @@
--- Which bytes are a content: of B any, of C2 any but a single one.
-use Prim.Native.Nat.{ℕ, _%_}
+-- Which bytes are a content: none above FF, of B any, of C2 any but a single one.
+use Prim.Native.Nat.{ℕ, _%_, _≤_}
 use mathlib.Core.Path.{_≡_, refl, sym, _∙_}
-use mathlib.Core.Bool.{true, not}
+use mathlib.Core.Bool.{Bool, true, false, cond, not}
 use mathlib.Core.List.{List}
 use native.Mathlib.Nat.{mod-one}
 use native.Mathlib.Omega.{arith}
@@ -11,7 +11,16 @@ use borrow.Author.Tests.{eqb-false, eq-eqb, ne-eqb, not-true}
 use Rattle.wire.specs.Number.{AtMost}
 use Rattle.item.specs.Code.{BOOLEAN, A, C2, sizes, kindOf, isPlain, allowed, largest}
 use Rattle.item.specs.Item.{Form, good, lean, limit, Content}
-use Rattle.item.proofs.Codes.{allowed-multiples, allowed-c2}
+use Rattle.item.proofs.Codes.{allowed-multiples, allowed-c2, largest-le}
+
+-- no limit is above a byte
+pub limit-le : (f : Form) (c : ℕ) → limit f c ≤ 0xFF
+limit-le good c = largest-le c
+limit-le lean c = go (eqb c BOOLEAN)
+  where
+    go : (b : Bool) → cond b 0x01 (largest c) ≤ 0xFF
+    go true = omega arith
+    go false = largest-le c
 
 -- of codes but A and BOOLEAN any bytes are a content, as many as the code allows
 any-bytes : (f : Form) (c : ℕ) (x : List ℕ) → isPlain (kindOf c) ≡ true → (c ≡ A → ⊥) → (c ≡ BOOLEAN → ⊥) → allowed c (length x) ≡ true → AtMost 0xFF x

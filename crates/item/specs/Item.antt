@@ -8,6 +8,9 @@ use lib.ListN.{length}
 use Rattle.wire.specs.Longest.{longest}
 use Rattle.wire.specs.Number.{numberOf, bytesOf, AtMost}
 use Rattle.item.specs.Code.{L, BOOLEAN, kindOf, isPlain, allowed, largest}
+-- what is asked of a good text, and more of one in lean form
+pub use Rattle.item.specs.declared.Form.{Form}
+pub use Rattle.item.specs.declared.Form.the-variants.{Good as good, Lean as lean}
 
 -- the tree: an item has a code other than L and its content, or is a list of members
 mutual
@@ -27,11 +30,6 @@ count (more i is) = suc (count is)
 pub data Tree : Type 0 where
   empty : Tree
   one : Item → Tree
-
--- what is asked of a good text, and more of one in lean form
-pub data Form : Type 0 where
-  good : Form
-  lean : Form
 
 -- the fewest bytes that hold a length (1 for zero)
 unfoldable pub fewest : ℕ → ℕ
@@ -83,11 +81,15 @@ abbrev pub Says : Form → Tree → List ℕ → Type 0
 Says f empty t = t ≡ []
 Says f (one i) t = Spells f 1 i t × (length t ≤ longest)
 
+-- a text of a form
+abbrev pub Formed : Form → List ℕ → Type 0
+Formed f t = (w : Tree) × Says f w t
+
 abbrev pub Good : List ℕ → Type 0
-Good t = (w : Tree) × Says good w t
+Good = Formed good
 
 abbrev pub Lean : List ℕ → Type 0
-Lean t = (w : Tree) × Says lean w t
+Lean = Formed lean
 
 -- BOOLEAN 00 is false, any other true
 abbrev pub truth : ℕ → ℕ

@@ -1,6 +1,6 @@
 ghost use mathlib.Core.Path.{_≡_};
 ghost use Rattle.item.specs.Code.{kindOf, nameOf, allowedBy, allowed, largest};
-ghost use Rattle.item.specs.Item.{fewest};
+ghost use Rattle.item.specs.Item.{fewest, limit};
 
 // The code of a list.
 pub const L: u32 = 0o00;
@@ -101,6 +101,26 @@ pub fn largest_byte(code: u32) -> u8
     ensures { λ r. ⌜ r ≡ largest code ⌝ }
 {
     if code == 0o20 { 0x7F } else { 0xFF }
+}
+
+// What is asked of a text: that it is good, or that it is lean.
+pub enum Form {
+    Good,
+    Lean,
+}
+
+// The largest byte that a content of this code may have in a text of this form.
+pub fn limit_byte(form: Form, code: u32) -> u8
+    ensures { λ r. ⌜ r ≡ limit form code ⌝ }
+{
+    match form {
+        Form::Good => largest_byte(code),
+        Form::Lean => if code == 0o11 {
+            0x01
+        } else {
+            largest_byte(code)
+        },
+    }
 }
 
 // The fewest length bytes that hold a length, from its leading zeros.

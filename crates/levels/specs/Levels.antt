@@ -21,6 +21,11 @@ unfoldable pub total : List ℕ → ℕ
 total [] = 0
 total (n ∷ st) = n + total st
 
+-- the items awaited at depth 16: the innermost of sixteen counts
+unfoldable pub deepest : List ℕ → ℕ
+deepest [] = 0
+deepest (n ∷ st) = cond (eqb (length st) 15) n 0
+
 -- the levels whose counts these are, with 0 above them
 unfoldable pub levelsOf : List ℕ → Levels
 levelsOf st = record { awaited = reverse st ++ replicate (16 - length st) 0; level = length st }
@@ -66,6 +71,10 @@ topOf l = cond (isOpen l) (getD (l .awaited) (l .level - 1) 0) 0
 -- the items awaited at all open levels
 abbrev pub sumOf : Levels → ℕ
 sumOf l = total (stack l)
+
+-- the items awaited at depth 16
+abbrev pub deepestOf : Levels → ℕ
+deepestOf l = deepest (stack l)
 
 -- at most 16 levels are open, and every count above them is 0
 unfoldable pub cleanOf : Levels → Bool

@@ -3,7 +3,7 @@ use mathlib.Core.Path.{_≡_, refl}
 use Rattle.wire.specs.Number.{numberOf}
 use Rattle.item.specs.Code.{kindOf, allowed, largest}
 use Rattle.levels.specs.Levels.{total, leaving, stackOf, levelsOf, cleanOf}
-use Rattle.follow.specs.Fits.{fitsItems, fitsList, fitsPlain, fitsLengths}
+use Rattle.follow.specs.Fits.{gap, fitsItems, leads, lowest, holdsMembers, fitsList, fitsPlain, fitsLengths}
 use Rattle.reader.specs.State.{fresh}
 use Rattle.reader.specs.Step.{known, atFormat, atList, atPlain, atLength, atContent, stepAt, step}
 use Rattle.reader.specs.Feed.{allowsPhase, allowsFrame, allowsEnd, allows, status, eat, fedOf}
@@ -19,5 +19,8 @@ use Rattle.listing.specs.Listing.{bytePrinted, bytesPrinted, listingOf}
 
 -- DOCUMENT 01'S EXAMPLE.
 pub example : listingOf stream ≡ lines
-unfolding numberOf kindOf allowed largest total leaving stackOf levelsOf cleanOf fitsItems fitsList fitsPlain fitsLengths fresh known atFormat atList atPlain atLength atContent stepAt step allowsPhase allowsFrame allowsEnd allows status eat fedOf headerOf lengthNumber kindNumber readerOf stateOf headNumber after textFed endOf allowsFrames eatHead fedFrames spelled fields messageLine itemLine endLine freshLister textByte headerCame settled fedByte byteTold endedBy lastLine bytePrinted bytesPrinted listingOf
+unfolding numberOf kindOf allowed largest total leaving stackOf levelsOf cleanOf gap fitsItems leads lowest holdsMembers fitsList fitsPlain
+    fitsLengths fresh known atFormat atList atPlain atLength atContent stepAt step allowsPhase allowsFrame allowsEnd allows status eat fedOf headerOf
+    lengthNumber kindNumber readerOf stateOf headNumber after textFed endOf allowsFrames eatHead fedFrames spelled fields messageLine itemLine endLine
+    freshLister textByte headerCame settled fedByte byteTold endedBy lastLine bytePrinted bytesPrinted listingOf
 example = refl

@@ -6,7 +6,8 @@ use native.Mathlib.Omega.{arith}
 use borrow.Author.Tests.{ne-eqb}
 use lib.ListN.{length}
 use Rattle.wire.specs.Number.{bytesOf, AtMost}
-use Rattle.item.specs.Item.{plain, one, lean, fewest, Says, told, leanItem}
+use Rattle.item.specs.Item.{plain, one, fewest, Says, told, leanItem}
+use Rattle.item.specs.declared.Form.the-variants.{Lean as lean}
 use Rattle.item.proofs.Fewest.{lean-lengths}
 use Rattle.item.proofs.Contents.{bytes-content}
 use Rattle.frame.specs.Header.{headerBytes}

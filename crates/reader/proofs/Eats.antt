@@ -3,15 +3,16 @@ use Prim.Native.Nat.{ℕ, zero, suc, _+_, _-_, _≤_, _<_}
 use mathlib.Core.Path.{_≡_, refl, sym, ap, subst, _∙_}
 use mathlib.Core.Bool.{true}
 use mathlib.Core.List.{List, [], _∷_}
-use mathlib.Core.Logic.{_⊎_, inl, inr}
+use native.Mathlib.Decide.{ℕ-discrete}
 use native.Mathlib.Numerals.{add-one}
 use native.Mathlib.Omega.{arith}
 use lib.ListN.{length, drop, getD, drop-of-length-le}
 use lib.Seq.{drop-cons}
+use Rattle.item.specs.declared.Form.{Form}
 use Rattle.levels.proofs.Laws.{levels-length, stack-length}
 use Rattle.levels.specs.Levels.{total, stackOf}
 use Rattle.levels.specs.declared.Levels.{Levels}
-use Rattle.follow.proofs.Sizes.{same?, awaited-fill}
+use Rattle.follow.proofs.Sizes.{awaited-fill}
 use Rattle.reader.specs.State.{State, stateOf, readerIn, readerOf, refused}
 use Rattle.reader.specs.Step.{step}
 use Rattle.reader.specs.Feed.{allows, statusAt, status, fed, after, eat}
@@ -37,15 +38,15 @@ unfolding total
 total-cons m st = refl
 
 -- with nothing left to follow a live state is complete
-pub end-complete : (p : Phase) (st : List ℕ) → LiveAt p st → RestAt p st [] → statusAt p st ≡ Complete
-end-complete Format [] at w = refl
-end-complete Format (zero ∷ st) at w = absurd (omega arith)
-end-complete Format (suc x ∷ st) at w = absurd (omega (arith, awaited-fill (suc x ∷ st) [] w .enough, total-cons (suc x) st))
-end-complete (Length c zero v) st at w = absurd (omega (arith, at .some))
-end-complete (Length c (suc j) v) st at w = absurd w
-end-complete (Content c zero) st at w = absurd (omega (arith, at .some))
-end-complete (Content c (suc l)) st at w = absurd w
-end-complete (Refused e) st at w = absurd at
+pub end-complete : (f : Form) (p : Phase) (st : List ℕ) → LiveAt p st → RestAt f p st [] → statusAt p st ≡ Complete
+end-complete f Format [] at w = refl
+end-complete f Format (zero ∷ st) at w = absurd (omega arith)
+end-complete f Format (suc x ∷ st) at w = absurd (omega (arith, awaited-fill f (suc x ∷ st) [] w .enough, total-cons (suc x) st))
+end-complete f (Length c zero v) st at w = absurd (omega (arith, at .some))
+end-complete f (Length c (suc j) v) st at w = absurd w
+end-complete f (Content c zero) st at w = absurd (omega (arith, at .some))
+end-complete f (Content c (suc l)) st at w = absurd w
+end-complete f (Refused e) st at w = absurd at
 
 no-bytes : (t : List ℕ) → length t ≡ 0 → t ≡ []
 no-bytes [] q = refl
@@ -53,16 +54,16 @@ no-bytes (b ∷ t) q = absurd (omega arith)
 
 pub more-left : (s : State) → Live s → status s ≡ More → s .read < s .size
 unfolding status
-more-left s live e = go (same? (s .size - s .read) 0)
+more-left s live e = go (ℕ-discrete (s .size - s .read) 0)
   where
-    go : (s .size - s .read ≡ 0) ⊎ (s .size - s .read ≡ 0 → ⊥) → s .read < s .size
-    go (inl z) =
+    go : Dec (s .size - s .read ≡ 0) → s .read < s .size
+    go (yes z) =
         let (t, (q, w)) = live .follows in
         let n : t ≡ [] = no-bytes t (q ∙ z) in
-        let c = end-complete (s .phase) (s .stack) (live .at) (subst (RestAt (s .phase) (s .stack)) n w) in
+        let c = end-complete (s .form) (s .phase) (s .stack) (live .at) (subst (RestAt (s .form) (s .phase) (s .stack)) n w) in
         let y : _≡_ {A = ℕ} 0 1 = cc in
         absurd (omega arith)
-    go (inr z) = omega arith
+    go (no z) = omega arith
 
 -- a reader that the list allows and that goes on
 pub record On (r : Reader) : Type 0 where
@@ -111,16 +112,16 @@ pub record Kept (s : State) : Type 0 where
   pub full : length (readerOf s .awaited) ≡ 16
   pub allowed : allows (readerOf s) ≡ true
 
-pub kept : (n k m : ℕ) (s : State) → Out n k m s → Kept s
-kept n k m s (goes live x y) =
+pub kept : (f : Form) (n k m : ℕ) (s : State) → Out f n k m s → Kept s
+kept f n k m s (goes live x y z) =
     record { state-is = state-reader s (live .shallow); full = levels-length (s .stack) (live .shallow); allowed = live-allows s live }
-kept n k m s (ends h l e) =
-    rw e (record { state-is = state-reader (refused n m) (omega arith); full = levels-length [] (omega arith); allowed = refused-allows n m h l })
+kept f n k m s (ends h l e) =
+    rw e (record { state-is = state-reader (refused f n m) (omega arith); full = levels-length [] (omega arith); allowed = refused-allows f n m h l })
 
 pub step-kept : (r : Reader) (b : ℕ) → b ≤ 255 → On r → Kept (step (stateOf r) b)
 step-kept r b byte o =
     let h = held r o in
-    kept _ _ _ (step (stateOf r) b) (step-right (stateOf r) b (h .live) (more-left (stateOf r) (h .live) (o .more)) byte .out)
+    kept _ _ _ _ (step (stateOf r) b) (step-right (stateOf r) b (h .live) (more-left (stateOf r) (h .live) (o .more)) byte .out)
 
 -- ---- the loop
 
@@ -152,7 +153,7 @@ turned p s₀ r i r′ a h byte o e stepped answered =
 
 -- a reader that goes on is the one that holds its state
 pub on-holds : (r : Reader) → On r → readerOf (stateOf r) ≡ r
-on-holds r o = ap (λ (l : Levels). readerIn (r .size) (r .read) l (r .phase)) (sym (held r o .clean .is))
+on-holds r o = ap (λ (l : Levels). readerIn (r .form) (r .size) (r .read) l (r .phase)) (sym (held r o .clean .is))
 
 module _ (s : State) (k : ℕ) (next : Fed) (a : Answer) where
   pub after-more : a ≡ More → after a s k next ≡ next

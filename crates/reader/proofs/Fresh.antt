@@ -8,8 +8,10 @@ use borrow.Author.Tests.{eqb-true, eqb-false, ltb-false}
 use lib.Dec.{eqb, ltb}
 use lib.ListN.{length}
 use Rattle.wire.specs.Longest.{longest}
+use Rattle.item.specs.declared.Form.{Form}
 use Rattle.levels.specs.Levels.{total}
-use Rattle.follow.proofs.Exist.{awaited-of}
+use Rattle.follow.proofs.Sizes.{Fill}
+use Rattle.follow.proofs.Exist.{shallow-fill, awaited-of}
 use Rattle.reader.specs.State.{State, state, readerOf, refused, fresh}
 use Rattle.reader.specs.Feed.{allows, status, statusOf}
 use Rattle.reader.specs.declared.Phase.the-variants.{Format}
@@ -17,16 +19,17 @@ use Rattle.reader.proofs.Rest.{Live}
 use Rattle.reader.proofs.Allowed.{state-reader, live-allows, refused-allows}
 
 -- nothing is awaited, or one item
-none-live : (n : ℕ) → n ≡ 0 → Live (state n 0 [] Format)
-none-live n z = record { bounded = omega arith; within = omega arith; shallow = omega arith; at = tt; follows = ([], (omega arith, refl)) }
+pub none-live : (f : Form) (n : ℕ) → n ≡ 0 → Live (state f n 0 [] Format)
+none-live f n z = record { bounded = omega arith; within = omega arith; shallow = omega arith; at = tt; follows = ([], (omega arith, refl)) }
 
-pub one-live : (n : ℕ) → 2 ≤ n → n ≤ longest → Live (state n 0 (1 ∷ []) Format)
+pub one-live : (f : Form) (n : ℕ) → 2 ≤ n → n ≤ longest → Live (state f n 0 (1 ∷ []) Format)
 unfolding total
-one-live n h m =
-    let (t, w, q) = awaited-of (1 ∷ []) n (record { enough = omega arith; none = λ z. absurd (omega arith) }) m (omega arith) in
+one-live f n h m =
+    let fill : Fill f n (1 ∷ []) = shallow-fill f n (1 ∷ []) (omega arith) (omega arith) (λ z. absurd (omega arith)) in
+    let (t, w, q) = awaited-of f (1 ∷ []) n fill m (omega arith) in
     record { bounded = m; within = omega arith; shallow = omega arith; at = omega arith; follows = (t, (q ∙ omega arith, w)) }
 
-two : (n : ℕ) → (n ≡ 0 → ⊥) → (n ≡ 1 → ⊥) → 2 ≤ n
+pub two : (n : ℕ) → (n ≡ 0 → ⊥) → (n ≡ 1 → ⊥) → 2 ≤ n
 two n h k = omega arith
 
 -- the reader of a state that is allowed, and the state's levels
@@ -37,23 +40,23 @@ record Begun (s : State) : Type 0 where
 live-begun : (s : State) → Live s → Begun s
 live-begun s l = record { allowed = live-allows s l; shallow = l .shallow }
 
-refused-begun : (n : ℕ) → Begun (refused n 5)
-refused-begun n = record { allowed = refused-allows n 5 (omega arith) (omega arith); shallow = omega arith }
+refused-begun : (f : Form) (n : ℕ) → Begun (refused f n 5)
+refused-begun f n = record { allowed = refused-allows f n 5 (omega arith) (omega arith); shallow = omega arith }
 
-fresh-begun : (n : ℕ) → Begun (fresh n)
+fresh-begun : (f : Form) (n : ℕ) → Begun (fresh f n)
 unfolding fresh
-fresh-begun n = go (eqb n 0) refl (eqb n 1) refl (ltb longest n) refl
+fresh-begun f n = go (eqb n 0) refl (eqb n 1) refl (ltb longest n) refl
   where
     go : (x : Bool) → eqb n 0 ≡ x → (y : Bool) → eqb n 1 ≡ y → (z : Bool) → ltb longest n ≡ z
-        → Begun (cond x (state n 0 [] Format) (cond y (refused n 5) (cond z (refused n 5) (state n 0 (1 ∷ []) Format))))
-    go true a y b z c = live-begun _ (none-live n (eqb-true n 0 a))
-    go false a true b z c = refused-begun n
-    go false a false b true c = refused-begun n
-    go false a false b false c = live-begun _ (one-live n (two n (eqb-false n 0 a) (eqb-false n 1 b)) (ltb-false longest n c))
+        → Begun (cond x (state f n 0 [] Format) (cond y (refused f n 5) (cond z (refused f n 5) (state f n 0 (1 ∷ []) Format))))
+    go true a y b z c = live-begun _ (none-live f n (eqb-true n 0 a))
+    go false a true b z c = refused-begun f n
+    go false a false b true c = refused-begun f n
+    go false a false b false c = live-begun _ (one-live f n (two n (eqb-false n 0 a) (eqb-false n 1 b)) (ltb-false longest n c))
 
 -- What a fresh reader answers is the status of the fresh state.
-pub fresh-status : (n : ℕ) → statusOf (readerOf (fresh n)) ≡ status (fresh n)
+pub fresh-status : (f : Form) (n : ℕ) → statusOf (readerOf (fresh f n)) ≡ status (fresh f n)
 unfolding statusOf
-fresh-status n =
-    let b = fresh-begun n in
-    rw (b .allowed) (ap status (state-reader (fresh n) (b .shallow)))
+fresh-status f n =
+    let b = fresh-begun f n in
+    rw (b .allowed) (ap status (state-reader (fresh f n) (b .shallow)))

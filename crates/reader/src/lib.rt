@@ -7,6 +7,7 @@ ghost use Rattle.reader.specs.Step.{known, whole, atFormat, atList, atPl
 ghost use Rattle.reader.specs.Feed.{allowsPhase, allowsFrame, allowsEnd, allows, status, statusOf, eat, fedOf};
 ghost use Rattle.reader.specs.Asked.{Spot, Ready};
 ghost use Rattle.item.specs.Code.{kindOf, isPlain};
+use item::Form;
 use item::Kind;
 use levels::Levels;
 use wire::LONGEST;
@@ -26,8 +27,9 @@ pub enum Phase {
     Refused(u32),
 }
 
-// N, the bytes read, and awaited[d - 1] the items still awaited at depth d, the innermost open depth being level.
+// The form that is asked for, N, the bytes read, and awaited[d - 1] the items still awaited at depth d, the innermost open depth being level.
 pub struct Reader {
+    pub form: Form,
     pub size: usize,
     pub read: usize,
     pub level: usize,
@@ -68,12 +70,13 @@ fn is_plain(c: u32) -> bool
     }
 }
 
-fn reader_in(n: usize, k: usize, l: Levels, phase: Phase) -> Reader
-    ensures { λ r. ⌜ r ≡ readerIn n k l phase ⌝ }
+fn reader_in(form: Form, n: usize, k: usize, l: Levels, phase: Phase) -> Reader
+    ensures { λ r. ⌜ r ≡ readerIn form n k l phase ⌝ }
 {
     let level = l.level;
     let awaited = l.awaited;
     Reader {
+        form,
         size: n,
         read: k,
         level,
@@ -82,38 +85,38 @@ fn reader_in(n: usize, k: usize, l: Levels, phase: Phase) -> Reader
     }
 }
 
-// A refused reader keeps N and its number, all else zero.
-fn refusal(n: usize, number: u32) -> Reader
-    ensures { λ r. ⌜ r ≡ readerOf (refused n number) ⌝ }
+// A refused reader keeps the form, N and its number, all else zero.
+fn refusal(form: Form, n: usize, number: u32) -> Reader
+    ensures { λ r. ⌜ r ≡ readerOf (refused form n number) ⌝ }
 {
-    reader_in(n, 0, levels::none(), Phase::Refused(number))
+    reader_in(form, n, 0, levels::none(), Phase::Refused(number))
 }
 
 // An item is whole: the levels that await nothing are left.
-fn whole_item(n: usize, k: usize, l: Levels) -> Reader
+fn whole_item(form: Form, n: usize, k: usize, l: Levels) -> Reader
     requires { ⌜ Clean l ⌝ }
-    ensures { λ r. ⌜ r ≡ readerOf (whole n k (stack l)) ⌝ }
+    ensures { λ r. ⌜ r ≡ readerOf (whole form n k (stack l)) ⌝ }
 {
-    reader_in(n, k, levels::closed(l), Phase::Format)
+    reader_in(form, n, k, levels::closed(l), Phase::Format)
 }
 
-fn at_format(n: usize, k: usize, l: Levels, b: u8) -> Reader
+fn at_format(form: Form, n: usize, k: usize, l: Levels, b: u8) -> Reader
     requires { ⌜ Spot n k l ⌝ }
-    ensures { λ r. ⌜ r ≡ readerOf (atFormat n k (stack l) b) ⌝ }
+    ensures { λ r. ⌜ r ≡ readerOf (atFormat form n k (stack l) b) ⌝ }
 {
     let c = (b / 4) as u32;
     let j = (b % 4) as usize;
     if is_known(c) {
         if j == 0 {
-            return refusal(n, 2);
+            return refusal(form, n, 2);
         }
-        let d = l.level;
-        let low = levels::begun(l);
-        if follow::fits_lengths(c, d, n - k, levels::sum(low), j, 0) {
+        let begun = levels::begun(l);
+        if follow::fits_lengths(form, c, n - k, begun, j, 0) {
             return reader_in(
+                form,
                 n,
                 k,
-                low,
+                begun,
                 Phase::Length {
                     code: c,
                     left: j,
@@ -121,98 +124,100 @@ fn at_format(n: usize, k: usize, l: Levels, b: u8) -> Reader
                 },
             );
         }
-        return refusal(n, 5);
+        return refusal(form, n, 5);
     }
-    refusal(n, 1)
+    refusal(form, n, 1)
 }
 
-fn at_list(n: usize, k: usize, l: Levels, v: usize) -> Reader
+fn at_list(form: Form, n: usize, k: usize, l: Levels, v: usize) -> Reader
     requires { ⌜ Spot n k l ⌝ }
     requires { ⌜ v < 256 ^ 3 ⌝ }
-    ensures { λ r. ⌜ r ≡ readerOf (atList n k (stack l) v) ⌝ }
+    ensures { λ r. ⌜ r ≡ readerOf (atList form n k (stack l) v) ⌝ }
 {
-    let m = levels::sum(l);
     if v == 0 {
-        if follow::fits_items(n - k, m) {
-            return whole_item(n, k, l);
+        if follow::fits_items(form, n - k, l) {
+            return whole_item(form, n, k, l);
         }
-        return refusal(n, 5);
+        return refusal(form, n, 5);
     }
     let depth = l.level;
     if depth == 16 {
-        return refusal(n, 4);
+        return refusal(form, n, 4);
     }
-    if follow::fits_items(n - k, m + v) {
-        return reader_in(n, k, levels::opened(l, v as u32), Phase::Format);
+    let members = levels::opened(l, v as u32);
+    if follow::fits_items(form, n - k, members) {
+        return reader_in(form, n, k, members, Phase::Format);
     }
-    refusal(n, 5)
+    refusal(form, n, 5)
 }
 
-fn at_plain(n: usize, k: usize, l: Levels, c: u32, v: usize) -> Reader
+fn at_plain(form: Form, n: usize, k: usize, l: Levels, c: u32, v: usize) -> Reader
     requires { ⌜ Spot n k l ⌝ }
-    ensures { λ r. ⌜ r ≡ readerOf (atPlain n k (stack l) c v) ⌝ }
+    ensures { λ r. ⌜ r ≡ readerOf (atPlain form n k (stack l) c v) ⌝ }
 {
     let left = n - k;
     if item::is_allowed(c, v) {
         if v <= left {
-            if follow::fits_items(left - v, levels::sum(l)) {
-                return content_from(n, k, l, c, v);
+            if follow::fits_items(form, left - v, l) {
+                return content_from(form, n, k, l, c, v);
             }
         }
-        return refusal(n, 5);
+        return refusal(form, n, 5);
     }
-    refusal(n, 3)
+    refusal(form, n, 3)
 }
 
-// A content of l bytes begins, or is whole where there is none.
-fn content_from(n: usize, k: usize, l: Levels, c: u32, v: usize) -> Reader
+// A content of v bytes begins, or is whole where there is none.
+fn content_from(form: Form, n: usize, k: usize, l: Levels, c: u32, v: usize) -> Reader
     requires { ⌜ Clean l ⌝ }
-    ensures { λ r. ⌜ r ≡ readerOf (Rattle.reader.specs.Step.contentFrom n k (stack l) c v) ⌝ }
+    ensures { λ r. ⌜ r ≡ readerOf (Rattle.reader.specs.Step.contentFrom form n k (stack l) c v) ⌝ }
 {
     if v == 0 {
-        whole_item(n, k, l)
+        whole_item(form, n, k, l)
     } else {
-        reader_in(n, k, l, Phase::Content { code: c, left: v })
+        reader_in(form, n, k, l, Phase::Content { code: c, left: v })
     }
 }
 
-fn at_length(n: usize, k: usize, l: Levels, c: u32, j: usize, v: usize) -> Reader
+fn at_length(form: Form, n: usize, k: usize, l: Levels, c: u32, j: usize, v: usize) -> Reader
     requires { ⌜ Spot n k l ⌝ }
     requires { ⌜ v < 256 ^ 3 ⌝ }
-    ensures { λ r. ⌜ r ≡ readerOf (atLength n k (stack l) c j v) ⌝ }
+    ensures { λ r. ⌜ r ≡ readerOf (atLength form n k (stack l) c j v) ⌝ }
 {
     if 0 < j {
-        let d = l.level;
-        if follow::fits_lengths(c, d, n - k, levels::sum(l), j, v) {
-            return reader_in(
-                n,
-                k,
-                l,
-                Phase::Length {
-                    code: c,
-                    left: j,
-                    value: v,
-                },
-            );
+        if follow::may_lead(form, v) {
+            if follow::fits_lengths(form, c, n - k, l, j, v) {
+                return reader_in(
+                    form,
+                    n,
+                    k,
+                    l,
+                    Phase::Length {
+                        code: c,
+                        left: j,
+                        value: v,
+                    },
+                );
+            }
         }
-        return refusal(n, 5);
+        return refusal(form, n, 5);
     }
     if c == item::L {
-        at_list(n, k, l, v)
+        at_list(form, n, k, l, v)
     } else {
-        at_plain(n, k, l, c, v)
+        at_plain(form, n, k, l, c, v)
     }
 }
 
-fn at_content(n: usize, k: usize, l: Levels, c: u32, left: usize, b: u8) -> Reader
+fn at_content(form: Form, n: usize, k: usize, l: Levels, c: u32, left: usize, b: u8) -> Reader
     requires { ⌜ Spot n k l ⌝ }
     requires { ⌜ 0 < left ⌝ }
-    ensures { λ r. ⌜ r ≡ readerOf (atContent n k (stack l) c left b) ⌝ }
+    ensures { λ r. ⌜ r ≡ readerOf (atContent form n k (stack l) c left b) ⌝ }
 {
-    if b <= item::largest_byte(c) {
-        content_from(n, k, l, c, left - 1)
+    if b <= item::limit_byte(form, c) {
+        content_from(form, n, k, l, c, left - 1)
     } else {
-        refusal(n, 6)
+        refusal(form, n, 6)
     }
 }
 
@@ -229,13 +234,15 @@ fn step_byte(r: Reader, b: u8) -> Reader
     requires { ⌜ Ready r ⌝ }
     ensures { λ s. ⌜ s ≡ readerOf (step (stateOf r) b) ⌝ }
 {
+    let form = r.form;
     let n = r.size;
     let k = r.read + 1;
     let l = levels_in(r);
     let phase = r.phase;
     match phase {
-        Phase::Format => at_format(n, k, l, b),
+        Phase::Format => at_format(form, n, k, l, b),
         Phase::Length { code, left, value } => at_length(
+            form,
             n,
             k,
             l,
@@ -243,8 +250,8 @@ fn step_byte(r: Reader, b: u8) -> Reader
             left - 1,
             value * 256 + (b as usize),
         ),
-        Phase::Content { code, left } => at_content(n, k, l, code, left, b),
-        Phase::Refused(number) => refusal(n, number),
+        Phase::Content { code, left } => at_content(form, n, k, l, code, left, b),
+        Phase::Refused(number) => refusal(form, n, number),
     }
 }
 
@@ -270,23 +277,23 @@ fn status_in(r: Reader) -> Answer
     }
 }
 
-fn allows_format(n: usize, l: Levels) -> bool
+fn allows_format(form: Form, n: usize, l: Levels) -> bool
     requires { ⌜ Clean l ⌝ }
-    ensures { λ r. ⌜ r ≡ allowsPhase Phase.Format n (stack l) ⌝ }
+    ensures { λ r. ⌜ r ≡ allowsPhase form Phase.Format n (stack l) ⌝ }
 {
     let d = l.level;
     if d == 0 {
-        return follow::fits_items(n, levels::sum(l));
+        return follow::fits_items(form, n, l);
     }
     if 0 < levels::top(l) {
-        return follow::fits_items(n, levels::sum(l));
+        return follow::fits_items(form, n, l);
     }
     false
 }
 
-fn allows_length(c: u32, j: usize, v: usize, n: usize, l: Levels) -> bool
+fn allows_length(form: Form, c: u32, j: usize, v: usize, n: usize, l: Levels) -> bool
     requires { ⌜ Clean l ⌝ }
-    ensures { λ r. ⌜ r ≡ allowsPhase (Phase.Length c j v) n (stack l) ⌝ }
+    ensures { λ r. ⌜ r ≡ allowsPhase form (Phase.Length c j v) n (stack l) ⌝ }
 {
     let d = l.level;
     if d == 0 {
@@ -300,15 +307,15 @@ fn allows_length(c: u32, j: usize, v: usize, n: usize, l: Levels) -> bool
             return false;
         }
         if follow::high_part(v, 3 - j) == 0 {
-            return follow::fits_lengths(c, d, n, levels::sum(l), j, v);
+            return follow::fits_lengths(form, c, n, l, j, v);
         }
     }
     false
 }
 
-fn allows_content(c: u32, left: usize, n: usize, l: Levels) -> bool
+fn allows_content(form: Form, c: u32, left: usize, n: usize, l: Levels) -> bool
     requires { ⌜ Clean l ⌝ }
-    ensures { λ r. ⌜ r ≡ allowsPhase (Phase.Content c left) n (stack l) ⌝ }
+    ensures { λ r. ⌜ r ≡ allowsPhase form (Phase.Content c left) n (stack l) ⌝ }
 {
     let d = l.level;
     if d == 0 {
@@ -319,7 +326,7 @@ fn allows_content(c: u32, left: usize, n: usize, l: Levels) -> bool
             return false;
         }
         if left <= n {
-            return follow::fits_items(n - left, levels::sum(l));
+            return follow::fits_items(form, n - left, l);
         }
     }
     false
@@ -365,22 +372,23 @@ fn is_refusal(number: u32) -> bool
 pub fn allows_state(r: Reader) -> bool
     ensures { λ s. ⌜ s ≡ allows r ⌝ }
 {
+    let form = r.form;
     let n = r.size;
     let k = r.read;
     let phase = r.phase;
     match phase {
         Phase::Format => if allows_frame(r) {
-            allows_format(n - k, levels_in(r))
+            allows_format(form, n - k, levels_in(r))
         } else {
             false
         },
         Phase::Length { code, left, value } => if allows_frame(r) {
-            allows_length(code, left, value, n - k, levels_in(r))
+            allows_length(form, code, left, value, n - k, levels_in(r))
         } else {
             false
         },
         Phase::Content { code, left } => if allows_frame(r) {
-            allows_content(code, left, n - k, levels_in(r))
+            allows_content(form, code, left, n - k, levels_in(r))
         } else {
             false
         },
@@ -474,18 +482,18 @@ pub fn feed(r: Reader, piece: &[u8]) -> Fed
     }
 }
 
-// A reader that is told N.
-pub fn fresh_reader(n: usize) -> Reader
-    ensures { λ r. ⌜ r ≡ readerOf (fresh n) ⌝ }
+// A reader that is told the form and N.
+pub fn fresh_reader(form: Form, n: usize) -> Reader
+    ensures { λ r. ⌜ r ≡ readerOf (fresh form n) ⌝ }
 {
     if n == 0 {
-        return reader_in(n, 0, levels::none(), Phase::Format);
+        return reader_in(form, n, 0, levels::none(), Phase::Format);
     }
     if n == 1 {
-        return refusal(n, 5);
+        return refusal(form, n, 5);
     }
     if LONGEST < n {
-        return refusal(n, 5);
+        return refusal(form, n, 5);
     }
-    reader_in(n, 0, levels::opened(levels::none(), 1), Phase::Format)
+    reader_in(form, n, 0, levels::opened(levels::none(), 1), Phase::Format)
 }

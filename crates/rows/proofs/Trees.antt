@@ -8,7 +8,8 @@ use lib.ListN.{length, length-append}
 use Rattle.wire.specs.Longest.{longest}
 use Rattle.wire.specs.Number.{bytesOf}
 use Rattle.item.specs.Code.{L}
-use Rattle.item.specs.Item.{Item, Items, plain, list, none, more, count, Tree, empty, one, good, lean, fewest, Content, Lengths, Spells, SpellsAll}
+use Rattle.item.specs.Item.{Item, Items, plain, list, none, more, count, Tree, empty, one, fewest, Content, Lengths, Spells, SpellsAll}
+use Rattle.item.specs.declared.Form.the-variants.{Good as good, Lean as lean}
 use Rattle.item.specs.Item.{Says, told, meaning, meanings, meaningOf, leanHeader, leanItem, leanItems, leanOf}
 use Rattle.item.proofs.Codes.{plain-not-list, plain-small}
 use Rattle.item.proofs.Fewest.{lean-lengths}

@@ -11,7 +11,8 @@ use lib.Seq.{take-at, drop-at}
 use Rattle.wire.specs.Longest.{longest}
 use Rattle.wire.specs.Number.{numberOf}
 use Rattle.item.specs.Code.{L, kindOf, isPlain}
-use Rattle.item.specs.Item.{Item, Items, plain, list, none, more, count, Tree, empty, one, good, Lengths, header, Spells, SpellsAll, Says}
+use Rattle.item.specs.Item.{Item, Items, plain, list, none, more, count, Tree, empty, one, Lengths, header, Spells, SpellsAll, Says}
+use Rattle.item.specs.declared.Form.the-variants.{Good as good}
 use Rattle.item.proofs.Codes.{plain-not-list}
 use Rattle.item.proofs.Laws.{shortest}
 use Rattle.rows.specs.Row.{row, contentSize}

@@ -5,7 +5,8 @@ use mathlib.Core.Path.{_≡_}
 use lib.ListN.{length, take}
 use Rattle.wire.specs.Number.{numberOf}
 use Rattle.item.specs.Code.{L}
-use Rattle.item.specs.Item.{Item, Items, plain, list, none, more, count, Tree, empty, one, good, Content, Spells, SpellsAll, Says}
+use Rattle.item.specs.Item.{Item, Items, plain, list, none, more, count, Tree, empty, one, Content, Spells, SpellsAll, Says}
+use Rattle.item.specs.declared.Form.the-variants.{Good as good}
 use Rattle.rows.specs.Row.{row, partAt, contentSize}
 use Rattle.rows.specs.declared.Row.{Row}
 

@@ -1,4 +1,4 @@
--- A text's number is 0 exactly for a good text: the feed of the whole text is complete or refused, by demand 3.
+-- A text's number is 0 exactly for a text of the form that is asked for: the feed of the whole text is complete or refused, by demand 3.
 use Prim.Native.Nat.{ℕ, suc, _*_, _≤_, _<_}
 use mathlib.Core.Path.{_≡_, refl, sym, ap, _∙_}
 use mathlib.Core.Bool.{Bool, true, false, cond}
@@ -11,42 +11,49 @@ use mir.Syntax.{w8}
 use mir.Val.{Fits}
 use lib.ListN.{length, getD}
 use Rattle.wire.specs.Number.{AtMost}
-use Rattle.item.specs.Item.{Good}
+use Rattle.item.specs.Item.{Formed, Good}
+use Rattle.item.specs.declared.Form.{Form}
+use Rattle.item.specs.declared.Form.the-variants.{Good as good}
 use Rattle.reader.specs.State.{readerOf, fresh}
 use Rattle.reader.specs.Feed.{fedOf}
 use Rattle.reader.specs.declared.Answer.{Answer}
 use Rattle.reader.specs.declared.Reader.{Reader}
 use Rattle.reader.specs.declared.Fed.{Fed}
-use Rattle.demand3.specs.Verdict.{Whole, is-good, not-good}
+use Rattle.demand3.specs.Verdict.{Whole, is-formed, not-formed}
 use Rattle.demand3.proofs.Whole.{whole-text}
 use Rattle.rows.specs.Asked.{Sound}
 use Rattle.rows.proofs.Walk.{good-sound}
 use Rattle.rows.specs.Row.{sizeOf}
 use Rattle.rows.specs.Rows.{rowsIn}
-use Rattle.text.specs.Text.{numberIn, judgedOf, measuredOf, readOf}
+use Rattle.text.specs.Text.{numberIn, judgedAs, judgedOf, measuredOf, readOf}
 use Rattle.wire.specs.declared.Counted.the-variants.{Is, Refused}
 use Rattle.text.specs.declared.Measured.the-variants as M
 
 -- the number of what the whole feed answers
-pub judged-is : (t : List ℕ) (r : Reader) (f : Fed) (a : Answer) → r ≡ readerOf (fresh (length t)) → f ≡ fedOf r t → f .answer ≡ a → numberIn a ≡ judgedOf t
-unfolding judgedOf
-judged-is t r f a e g h = sym (ap numberIn (ap (λ (x : Fed). x .answer) (ap (λ (x : Reader). fedOf x t) (sym e) ∙ sym g) ∙ h))
+pub judged-is : (form : Form) (t : List ℕ) (r : Reader) (f : Fed) (a : Answer) → r ≡ readerOf (fresh form (length t)) → f ≡ fedOf r t → f .answer ≡ a
+    → numberIn a ≡ judgedAs form t
+unfolding judgedAs
+judged-is form t r f a e g h = sym (ap numberIn (ap (λ (x : Fed). x .answer) (ap (λ (x : Reader). fedOf x t) (sym e) ∙ sym g) ∙ h))
+
+-- 0 exactly for the texts of the form
+pub judged-as : (f : Form) (t : List ℕ) → AtMost 0xFF t → (judgedAs f t ≡ 0) ↔ Formed f t
+unfolding judgedAs
+judged-as f t b = go _ (whole-text f t b)
+  where
+    go : (a : Answer) → Whole f t a → (numberIn a ≡ 0) ↔ Formed f t
+    go a (is-formed g) = ((λ _. g), λ _. refl)
+    go a (not-formed e some few n) = ((λ z. absurd (omega arith)), λ g. absurd (n g))
 
 pub judged-good : (t : List ℕ) → AtMost 0xFF t → (judgedOf t ≡ 0) ↔ Good t
-unfolding judgedOf
-judged-good t b = go _ (whole-text t b)
-  where
-    go : (a : Answer) → Whole t a → (numberIn a ≡ 0) ↔ Good t
-    go a (is-good g) = ((λ _. g), λ _. refl)
-    go a (not-good e some few n) = ((λ z. absurd (omega arith)), λ g. absurd (n g))
+judged-good t b = judged-as good t b
 
 pub judged-range : (t : List ℕ) → AtMost 0xFF t → judgedOf t ≤ 6
-unfolding judgedOf
-judged-range t b = go _ (whole-text t b)
+unfolding judgedAs
+judged-range t b = go _ (whole-text good t b)
   where
-    go : (a : Answer) → Whole t a → numberIn a ≤ 6
-    go a (is-good g) = omega arith
-    go a (not-good e some few n) = few
+    go : (a : Answer) → Whole good t a → numberIn a ≤ 6
+    go a (is-formed g) = omega arith
+    go a (not-formed e some few n) = few
 
 -- a slice of bytes holds bytes
 pub all-bytes : (t : List ℕ) → ((i : ℕ) → Fits w8 (getD t i 0)) → AtMost 0xFF t
@@ -66,7 +73,8 @@ pub measured-are : (t : List ℕ) (rows bytes : ℕ) → measuredOf t ≡ M.Are 
 unfolding measuredOf
 measured-are t rows bytes e = go (eqb (judgedOf t) 0) refl e
   where
-    go : (b : Bool) → eqb (judgedOf t) 0 ≡ b → cond b (M.Are (length (rowsIn t)) (sizeOf (rowsIn t))) (M.Refused (judgedOf t)) ≡ M.Are rows bytes → Known t rows bytes
+    go : (b : Bool) → eqb (judgedOf t) 0 ≡ b
+        → cond b (M.Are (length (rowsIn t)) (sizeOf (rowsIn t))) (M.Refused (judgedOf t)) ≡ M.Are rows bytes → Known t rows bytes
     go true z q = record { good = eqb-true (judgedOf t) 0 z; rows-are = cc; bytes-are = cc }
     go false z q = let y : _≡_ {A = ℕ} 0 1 = cc in absurd (omega arith)
 
@@ -74,7 +82,8 @@ pub measured-refused : (t : List ℕ) (k : ℕ) → measuredOf t ≡ M.Refused k
 unfolding measuredOf
 measured-refused t k e = go (eqb (judgedOf t) 0) refl e
   where
-    go : (b : Bool) → eqb (judgedOf t) 0 ≡ b → cond b (M.Are (length (rowsIn t)) (sizeOf (rowsIn t))) (M.Refused (judgedOf t)) ≡ M.Refused k → (judgedOf t ≡ k) × (judgedOf t ≡ 0 → ⊥)
+    go : (b : Bool) → eqb (judgedOf t) 0 ≡ b
+        → cond b (M.Are (length (rowsIn t)) (sizeOf (rowsIn t))) (M.Refused (judgedOf t)) ≡ M.Refused k → (judgedOf t ≡ k) × (judgedOf t ≡ 0 → ⊥)
     go true z q = let y : _≡_ {A = ℕ} 0 1 = cc in absurd (omega arith)
     go false z q = (cc, eqb-false (judgedOf t) 0 z)
 

@@ -5,6 +5,8 @@ use mathlib.Core.List.{List, [], _++_}
 use lib.Dec.{eqb, leb}
 use lib.ListN.{length, drop}
 use Rattle.item.specs.Code.{kindOf}
+use Rattle.item.specs.declared.Form.{Form}
+use Rattle.item.specs.declared.Form.the-variants.{Good as good}
 use Rattle.item.specs.declared.Kind.{Kind}
 use Rattle.item.specs.declared.Kind.the-variants as K
 use Rattle.reader.specs.State.{readerOf, fresh}
@@ -19,15 +21,19 @@ use Rattle.wire.specs.declared.Counted.the-variants.{Is, Refused}
 use Rattle.text.specs.declared.Measured.{Measured}
 use Rattle.text.specs.declared.Measured.the-variants as M
 
--- the number of an answer; 0 for a good text. That a whole text is never answered more is proved, so that its 5 is not met.
+-- the number of an answer; 0 for a text of the form. That a whole text is never answered more is proved, so that its 5 is not met.
 abbrev pub numberIn : Answer → ℕ
 numberIn Complete = 0
 numberIn (Refusal e) = e
 numberIn More = 5
 
--- a whole text's number: the fed reader's, with N its length
-unfoldable pub judgedOf : List ℕ → ℕ
-judgedOf t = numberIn (fedOf (readerOf (fresh (length t))) t .answer)
+-- a whole text's number, asked to be good or lean: the fed reader's, told that form, with N its length
+unfoldable pub judgedAs : Form → List ℕ → ℕ
+judgedAs f t = numberIn (fedOf (readerOf (fresh f (length t))) t .answer)
+
+-- as a good text
+abbrev pub judgedOf : List ℕ → ℕ
+judgedOf t = judgedAs good t
 
 -- how many rows a good text has, and how many bytes its lean form
 unfoldable pub measuredOf : List ℕ → Measured

@@ -3,27 +3,35 @@ ghost use Prim.Native.Nat.{_+_, _*_, _≤_};
 ghost use mathlib.Core.List.{[], _∷_};
 ghost use lib.ListN.{length, getD, drop};
 ghost use lib.Seq.{sets};
-ghost use Rattle.rows.specs.Row.{row, contentSize, sizeOf, tableOf};
+ghost use Rattle.rows.specs.Row.{contentSize, sizeOf, tableOf};
 ghost use Rattle.rows.specs.Rows.{rowAt, rowsIn};
 ghost use Rattle.rows.specs.Asked.{Sound};
-ghost use Rattle.text.specs.Text.{judgedOf, measuredOf, readOf, tableAfter, partNumber, partOf};
+ghost use Rattle.text.specs.Text.{judgedAs, judgedOf, measuredOf, readOf, tableAfter, partNumber, partOf};
 ghost use Rattle.text.specs.Asked.{HeaderAt};
+use item::Form;
 use item::Kind;
 use reader::Answer;
 use rows::Row;
 use wire::Counted;
 
-// A text's number by the fed reader, with N its length; 0 for a good text.
-pub fn judge(text: &[u8]) -> u32
-    ensures { λ r. ⌜ r ≡ judgedOf (now (text .entry)) ⌝ }
+// A text's number by the fed reader, told the form, with N the text's length; 0 for a text of that form.
+pub fn judge_as(form: Form, text: &[u8]) -> u32
+    ensures { λ r. ⌜ r ≡ judgedAs form (now (text .entry)) ⌝ }
 {
-    let f = reader::feed(reader::fresh_reader(text.len()), text);
+    let f = reader::feed(reader::fresh_reader(form, text.len()), text);
     let answer = f.answer;
     match answer {
         Answer::Complete => 0,
         Answer::Refusal(number) => number,
         Answer::More => 5,
     }
+}
+
+// A text's number; 0 for a good text.
+pub fn judge(text: &[u8]) -> u32
+    ensures { λ r. ⌜ r ≡ judgedOf (now (text .entry)) ⌝ }
+{
+    judge_as(Form::Good, text)
 }
 
 // The row whose format byte stands at place p.
@@ -118,7 +126,8 @@ fn fill(text: &[u8], table: &mut [u32])
 
 // Reads a whole text into a table of rows, three numbers a row, and answers how many rows.
 pub fn read(text: &[u8], table: &mut [u32]) -> Counted
-    ensures { λ r. ⌜ (r ≡ readOf (now (text .entry)) (length (now (table .entry)))) × (now (table .exit) ≡ tableAfter r (now (text .entry)) (now (table .entry))) ⌝ }
+    ensures { λ r. ⌜ (r ≡ readOf (now (text .entry)) (length (now (table .entry))))
+        × (now (table .exit) ≡ tableAfter r (now (text .entry)) (now (table .entry))) ⌝ }
 {
     match measure(text) {
         Measured::Refused(number) => Counted::Refused(number),

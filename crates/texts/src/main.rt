@@ -1,5 +1,6 @@
 use bytes::scan;
 use hex::Said;
+use item::Form;
 use libc::STDIN_FILENO;
 use libc::STDOUT_FILENO;
 use rows::Row;
@@ -55,6 +56,7 @@ fn bad() {
 fn judge(t: &[u8]) {
     put(b"judged");
     decimal(text::judge(t) as usize);
+    decimal(text::judge_as(Form::Lean, t) as usize);
     match text::measure(t) {
         Measured::Are { rows, bytes } => {
             decimal(rows);

@@ -9,7 +9,8 @@ use lib.Dec.{eqb, leb}
 use lib.ListN.{length}
 use Rattle.wire.specs.Number.{AtMost}
 use Rattle.item.specs.Code.{L, kindOf, isPlain, allowed, largest}
-use Rattle.item.specs.Item.{Item, Items, plain, list, none, more, count, Tree, empty, one, good, Content}
+use Rattle.item.specs.Item.{Item, Items, plain, list, none, more, count, Tree, empty, one, Content}
+use Rattle.item.specs.declared.Form.the-variants.{Good as good}
 use Rattle.item.specs.declared.Kind.{Kind}
 use Rattle.item.specs.declared.Kind.the-variants as K
 use Rattle.item.proofs.Codes.{of-plain, plain-not-list, list-code}

@@ -1,9 +1,10 @@
 //! The fed reader.
 
+mod lean;
 mod wide;
 
 use crate::book::Book;
-use crate::items::{item, item_head, A, KINDS, KINDS_OF_01, LIST, MOST_TEXT};
+use crate::items::{item, item_head, Form, A, KINDS, KINDS_OF_01, LIST, MOST_TEXT};
 use crate::random::Random;
 use crate::reader::{Reader, State, Status};
 use crate::trees::{self, Manner};
@@ -11,11 +12,14 @@ use crate::trees::{self, Manner};
 struct Feeds {
     book: Book,
     reader: Reader,
+    /// The reader's form, which the next fresh one is told too.
+    form: Form,
     random: Random,
 }
 
 pub fn make() -> Book {
-    let mut feeds = Feeds { book: Book::default(), reader: Reader::fresh(0), random: Random::new(1) };
+    let reader = Reader::fresh(Form::Good, 0);
+    let mut feeds = Feeds { book: Book::default(), reader, form: Form::Good, random: Random::new(1) };
     feeds.beginning();
     feeds.paper();
     feeds.numbers();
@@ -28,6 +32,7 @@ pub fn make() -> Book {
     feeds.random_bytes();
     feeds.largest();
     feeds.wide();
+    feeds.lean();
     feeds.written_oddly();
     feeds.book
 }
@@ -41,22 +46,28 @@ fn status_fields(status: Status) -> String {
 }
 
 impl Feeds {
-    fn count(&mut self, status: Status) {
+    /// One more case of a kind and of the reader's form, with its status.
+    fn count(&mut self, kind: &str, status: Status) {
+        self.book.kind(&format!("{kind}, {}", self.form.name()));
         if let Status::Refused(number) = status {
-            self.book.number(number);
+            self.book.number_as(self.form, number);
         }
     }
 
     fn fresh(&mut self, n: usize) {
-        self.book.record('f', &[&(n as u32).to_be_bytes()]);
+        let letter = match self.form {
+            Form::Good => 'f',
+            Form::Lean => 'l',
+        };
+        self.book.record(letter, &[&(n as u32).to_be_bytes()]);
         self.told(n);
     }
 
     fn told(&mut self, n: usize) {
-        self.reader = Reader::fresh(n);
+        self.reader = Reader::fresh(self.form, n);
         let status = self.reader.status();
         self.book.line_out(&format!("fresh\t{}", status_fields(status)));
-        self.count(status);
+        self.count("fresh", status);
     }
 
     fn piece(&mut self, piece: &[u8]) {
@@ -67,7 +78,7 @@ impl Feeds {
     fn fed(&mut self, piece: &[u8]) {
         let (status, consumed) = self.reader.feed(piece);
         self.book.line_out(&format!("fed\t{}\t{consumed}", status_fields(status)));
-        self.count(status);
+        self.count("fed", status);
     }
 
     fn bytewise(&mut self, bytes: &[u8]) {
@@ -85,16 +96,21 @@ impl Feeds {
     }
 
     fn state(&mut self, state: &State) {
+        self.state_with(u8::from(state.form == Form::Lean), state);
+    }
+
+    /// A state with a form byte that says its form.
+    fn state_with(&mut self, form: u8, state: &State) {
         let fields = [state.n, state.read, state.level].map(u32::to_be_bytes).concat();
         let phase = [state.code, state.left, state.value].map(u32::to_be_bytes).concat();
         let counts = state.counts.map(u32::to_be_bytes).concat();
-        self.book.record('s', &[&fields, &[state.phase], &phase, &counts]);
+        self.book.record('s', &[&[form], &fields, &[state.phase], &phase, &counts]);
+        self.form = state.form;
         self.reader = state.reader();
         let judged = if matches!(self.reader, Reader::Broken) { "broken" } else { "allowed" };
         let status = self.reader.status();
         self.book.line_out(&format!("state\t{judged}\t{}", status_fields(status)));
-        self.book.kind(&format!("state {judged}"));
-        self.count(status);
+        self.count(&format!("state {judged}"), status);
     }
 
     /// The bytes in one piece and byte by byte; then what comes behind complete or a refusal.
@@ -109,6 +125,15 @@ impl Feeds {
         self.bytewise(bytes);
         self.piece(&[0x41]);
         self.piece(&[]);
+    }
+
+    /// In one piece, and byte by byte as far as they are taken.
+    fn cut_both_ways(&mut self, n: usize, bytes: &[u8]) {
+        self.fresh(n);
+        self.piece(bytes);
+        self.fresh(n);
+        let mut bytes = bytes.iter().copied();
+        self.while_taken(|_| bytes.next());
     }
 
     fn beginning(&mut self) {
@@ -260,6 +285,17 @@ impl Feeds {
         self.piece(&[0x41, 0x90]);
     }
 
+    /// These bytes fed where a state has an item begun, or awaits one.
+    fn go_on_at(&mut self, name: &str, state: &State, bytes: &[u8]) {
+        self.book.name(&format!("a state: {name}, in one piece and byte by byte"));
+        self.state(state);
+        self.piece(bytes);
+        self.piece(&[]);
+        self.state(state);
+        self.bytewise(bytes);
+        self.piece(&[0x41]);
+    }
+
     fn random_states(&mut self) {
         for case in 0..120 {
             let state = self.random_state();
@@ -277,6 +313,7 @@ impl Feeds {
         let awaited: u32 = counts.iter().sum();
         let read = random.below(40) as u32;
         State {
+            form: Form::Good,
             n: read + 2 * awaited + random.below(8) as u32,
             read,
             level,
@@ -299,9 +336,7 @@ impl Feeds {
     fn good_and_not(&mut self, name: &str, text: &[u8]) {
         self.book.name(name);
         self.in_pieces(text.len(), text);
-        let mut damaged = text.to_vec();
-        let place = self.random.below(text.len());
-        damaged[place] ^= 1 << self.random.below(8);
+        let damaged = self.random.with_a_bit_changed(text);
         self.book.name("one bit changed");
         self.in_pieces(text.len(), &damaged);
         self.book.name("another N");
@@ -342,11 +377,15 @@ impl Feeds {
         damaged[MOST_TEXT - 1] = 0x80;
         for (name, text) in [("one A item", plain), ("15,998 members", members), ("6 at byte 32,000", damaged)] {
             self.book.name(&format!("N=32,000, {name}"));
-            self.fresh(text.len());
-            let (most, rest) = text.split_at(MOST_TEXT - 4);
-            self.piece(most);
-            self.bytewise(rest);
+            self.last_bytes_alone(&text);
         }
+    }
+
+    fn last_bytes_alone(&mut self, text: &[u8]) {
+        self.fresh(text.len());
+        let (most, rest) = text.split_at(text.len() - 4);
+        self.piece(most);
+        self.bytewise(rest);
     }
 
     fn written_oddly(&mut self) {
@@ -387,7 +426,7 @@ fn counts_at(level: usize, count: u32) -> [u32; 16] {
 }
 
 fn at_length() -> State {
-    State { n: 10, read: 5, level: 2, phase: 1, code: A, left: 1, value: 0, counts: counts_at(2, 2) }
+    State { form: Form::Good, n: 10, read: 5, level: 2, phase: 1, code: A, left: 1, value: 0, counts: counts_at(2, 2) }
 }
 
 fn format_states() -> Named {

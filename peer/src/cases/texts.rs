@@ -1,10 +1,12 @@
 //! Whole texts: judge, read, part, write, lean.
 
+mod lean;
 mod wide;
 
 use crate::book::{answer, hex, Book};
-use crate::items::{item, item_head, A, B, BOOLEAN, KINDS, LIST};
+use crate::items::{item, item_head, Form, A, B, BOOLEAN, KINDS, LIST};
 use crate::random::Random;
+use crate::reader::number_of;
 use crate::texts::{lean_form, part, read, rows_of, write, write_lean};
 use crate::trees::{self, Manner};
 
@@ -30,6 +32,7 @@ pub fn make() -> Book {
     texts.damaged();
     texts.random_rows();
     texts.wide();
+    texts.lean_only();
     texts.book.bad_records(&[
         "j 0",
         "j 4G",
@@ -51,16 +54,20 @@ fn output(room: usize) -> Vec<u8> {
 impl Texts {
     fn judge(&mut self, text: &[u8]) {
         self.book.record('j', &[text]);
-        let line = match rows_of(text) {
+        let number = number_of(Form::Lean, text);
+        self.book.number_as(Form::Lean, number);
+        let (kind, line) = match rows_of(text) {
             Ok(numbers) => {
                 let lean = lean_form(text).expect("a good text has one");
-                format!("judged\t0\t{}\t{}", numbers.len() / 3, lean.len())
+                let kind = if number == 0 { "judged lean" } else { "judged good, not lean" };
+                (kind, format!("judged\t0\t{number}\t{}\t{}", numbers.len() / 3, lean.len()))
             }
-            Err(number) => {
-                self.book.number(number);
-                format!("judged\t{number}")
+            Err(good) => {
+                self.book.number(good);
+                ("judged not good", format!("judged\t{good}\t{number}"))
             }
         };
+        self.book.kind(kind);
         self.book.line_out(&line);
     }
 

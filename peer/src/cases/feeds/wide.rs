@@ -17,15 +17,6 @@ impl Feeds {
         self.random_wide();
     }
 
-    /// In one piece, and byte by byte as far as they are taken.
-    fn cut_both_ways(&mut self, n: usize, bytes: &[u8]) {
-        self.fresh(n);
-        self.piece(bytes);
-        self.fresh(n);
-        let mut bytes = bytes.iter().copied();
-        self.while_taken(|_| bytes.next());
-    }
-
     fn wide_lengths(&mut self) {
         let lines: [(&str, usize, &[u8]); 17] = [
             ("C2, N=3 `49`: 5 at byte 1", 3, &[0x49, 0x01, 0x00]),
@@ -131,10 +122,7 @@ impl Feeds {
         }
         self.book.name("N=32,000, one C2 item");
         let text = item(C2, &self.random.bytes(MOST_TEXT - 3));
-        self.fresh(text.len());
-        let (most, rest) = text.split_at(MOST_TEXT - 4);
-        self.piece(most);
-        self.bytewise(rest);
+        self.last_bytes_alone(&text);
     }
 
     fn wide_states(&mut self) {
@@ -165,13 +153,7 @@ impl Feeds {
             ("a C2's last content byte, then a C2 of none", State { n: 8, ..awaiting(&content) }, &[0xFF, 0x49, 0x00]),
         ];
         for (name, state, bytes) in cases {
-            self.book.name(&format!("a state: {name}, in one piece and byte by byte"));
-            self.state(&state);
-            self.piece(bytes);
-            self.piece(&[]);
-            self.state(&state);
-            self.bytewise(bytes);
-            self.piece(&[0x41]);
+            self.go_on_at(name, &state, bytes);
         }
     }
 
