@@ -14,6 +14,7 @@ use Rattle.wire.specs.Longest.{longest}
 use Rattle.item.specs.Item.{none, more, Tree, empty, one, Says, Formed}
 use Rattle.item.specs.declared.Form.{Form}
 use Rattle.follow.proofs.Sizes.{item-size}
+use Rattle.follow.proofs.Exist.{two-at-least}
 use Rattle.reader.specs.State.{State, state, refused, fresh}
 use Rattle.reader.specs.Step.{step}
 use Rattle.reader.specs.Feed.{status}
@@ -24,7 +25,7 @@ use Rattle.reader.specs.declared.Phase.the-variants.{Format}
 use Rattle.reader.specs.declared.Answer.the-variants.{More}
 use Rattle.reader.proofs.Right.{Out, goes, ends, Right, roleIn, step-right}
 use Rattle.reader.proofs.Eats.{more-left}
-use Rattle.reader.proofs.Fresh.{one-live, two}
+use Rattle.reader.proofs.Fresh.{one-live}
 use Rattle.demand3.specs.Roles.{rolesOf}
 use Rattle.demand3.specs.Begins.{Begins, NumberBehind}
 use Rattle.demand3.proofs.Walk.{taken, Naive, there, gone, step-there, text-taken}
@@ -93,7 +94,7 @@ along-fresh f n = go (eqb n 0) refl (eqb n 1) refl (ltb longest n) refl
     go true a y b z c = nothing (eqb-true n 0 a) refl refl
     go false a true b z c = never refl refl (no-text f n (inl (eqb-true n 1 b)))
     go false a false b true c = never refl refl (no-text f n (inr (ltb-true longest n c)))
-    go false a false b false c = stands (start-stands f n (two n (eqb-false n 0 a) (eqb-false n 1 b)) (ltb-false longest n c))
+    go false a false b false c = stands (start-stands f n (two-at-least n (eqb-false n 0 a) (eqb-false n 1 b)) (ltb-false longest n c))
 
 -- ---- one byte more
 

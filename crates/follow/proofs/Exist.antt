@@ -6,7 +6,7 @@ use mathlib.Core.Bool.{true, false, cond, not}
 use mathlib.Core.List.{List, [], _∷_, _++_}
 use mathlib.Core.Logic.{inl, inr}
 use native.Mathlib.Decide.{ℕ-discrete}
-use native.Mathlib.Nat.{mod-eq-of-lt, pos-of-ne-zero}
+use native.Mathlib.Nat.{mod-eq-of-lt}
 use native.Mathlib.Numerals.{lt-of-le-of-ne}
 use native.Mathlib.Omega.{arith}
 use lib.Dec.{eqb, leb, ltb}
@@ -30,6 +30,9 @@ use Rattle.follow.proofs.Gap.{only-258, zeros-length, zeros-at-most}
 use Rattle.follow.proofs.Leading.{grown, bytes-led, Lowest, the-lowest}
 use Rattle.follow.proofs.Grammar.{run-none, none-in, content-in, length-in}
 use Rattle.follow.proofs.Sizes.{AtGap, gap?, Fill, fits-fill, FitList, FitPlain}
+
+pub two-at-least : (n : ℕ) → (n ≡ 0 → ⊥) → (n ≡ 1 → ⊥) → 2 ≤ n
+two-at-least n h k = omega arith
 
 -- ---- several items, one behind another
 
@@ -165,7 +168,7 @@ module _ (f : Form) (st : List ℕ) (j v n : ℕ) (m : n ≤ longest) (deep : le
       go (no e) (yes z) (yes s) (no y) (yes h) =
           some 2 (omega arith) (omega arith) e (record { enough = omega arith; none = λ q. absurd (omega arith); whole = λ g. omega (arith, g .one) })
       go (no e) (yes z) (yes s) (no y) (no h) =
-          let two : 2 ≤ n - j = lt-of-le-of-ne (pos-of-ne-zero y) (λ q. x .apart e (omega arith) (sym q)) in
+          let two = two-at-least (n - j) y (x .apart e (omega arith)) in
           some 1 (omega arith) (omega arith) e (record { enough = omega arith; none = λ q. absurd (omega arith); whole = λ g. h (g .bytes) })
       go (no e) (no z) s y h =
           some (lowest f j v) (omega arith) (omega arith) e

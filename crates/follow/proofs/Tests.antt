@@ -2,54 +2,54 @@
 use Prim.Native.Nat.{ℕ, suc, _+_, _*_, _-_, _/_, _^_, _≤_, _<_}
 use mathlib.Core.Path.{_≡_, refl, sym, ap, _∙_}
 use mathlib.Core.Bool.{Bool, true, false}
-use native.Mathlib.Nat.{le-mul-of-pos-right, one-le-pow, zero-lt-suc, pow-succ', div-div-eq-div-mul, le-div-iff-mul-le, div-lt-iff-lt-mul}
+use native.Mathlib.Nat.{le-mul-of-pos-right, pow-succ', div-div-eq-div-mul, le-div-iff-mul-le, div-lt-iff-lt-mul}
 use native.Mathlib.Omega.{arith}
 use borrow.Author.Tests.{eq-eqb, ne-eqb, eqb-true, eqb-false, le-leb, lt-leb, leb-true, leb-false, lt-ltb, le-ltb}
 use lib.Dec.{eqb, leb, ltb}
+use Rattle.wire.proofs.Numbers.{power-pos}
+
+-- two tests that hold together, and fail together
+leb-same : (a b c d : ℕ) → (a ≤ b → c ≤ d) → (b < a → d < c) → leb a b ≡ leb c d
+leb-same a b c d h k = go (leb a b) refl
+  where
+    go : (x : Bool) → leb a b ≡ x → x ≡ leb c d
+    go true e = sym (le-leb c d (h (leb-true a b e)))
+    go false e = sym (lt-leb c d (k (leb-false a b e)))
 
 -- two bytes an item
 pub halves : (n m : ℕ) → leb m (n / 2) ≡ leb (2 * m) n
-halves n m = go (leb (2 * m) n) refl
-  where
-    go : (b : Bool) → leb (2 * m) n ≡ b → leb m (n / 2) ≡ b
-    go true e = le-leb m (n / 2) (omega (arith, leb-true (2 * m) n e))
-    go false e = lt-leb m (n / 2) (omega (arith, leb-false (2 * m) n e))
+halves n m = leb-same m (n / 2) (2 * m) n (λ h. omega arith) (λ h. omega arith)
 
 -- one byte more is left off
 pub part-more : (n k : ℕ) → n / 256 / 256 ^ k ≡ n / 256 ^ suc k
 part-more n k = div-div-eq-div-mul n 256 (256 ^ k) ∙ ap (λ (x : ℕ). n / x) (sym (pow-succ' 256 k))
 
 module _ (v j n : ℕ) where
-  some : 0 < 256 ^ j
-  some = one-le-pow j 256 (zero-lt-suc 255)
-
   -- v with j more bytes, all zero, is at most n
   pub at-most : v ≤ n / 256 ^ j → v * 256 ^ j ≤ n
-  at-most h = le-div-iff-mul-le some .0 h
+  at-most h = le-div-iff-mul-le (power-pos j) .0 h
 
   pub above : n / 256 ^ j < v → n < v * 256 ^ j
-  above h = div-lt-iff-lt-mul some .0 h
+  above h = div-lt-iff-lt-mul (power-pos j) .0 h
 
   -- with any j more bytes it is above n
   pub beyond : n / 256 ^ j ≤ v → n < v * 256 ^ j + 256 ^ j
   beyond h =
-      let w : n < suc v * 256 ^ j = div-lt-iff-lt-mul some .0 (omega (arith, h)) in
+      let w : n < suc v * 256 ^ j = div-lt-iff-lt-mul (power-pos j) .0 (omega (arith, h)) in
       let e : suc v * 256 ^ j ≡ v * 256 ^ j + 256 ^ j = omega arith in
       rw e at w
 
   pub not-beyond : v < n / 256 ^ j → v * 256 ^ j + 256 ^ j ≤ n
   not-beyond h =
-      let w : suc v * 256 ^ j ≤ n = le-div-iff-mul-le some .0 h in
+      let w : suc v * 256 ^ j ≤ n = le-div-iff-mul-le (power-pos j) .0 h in
       let e : suc v * 256 ^ j ≡ v * 256 ^ j + 256 ^ j = omega arith in
       rw e at w
 
 -- members and items behind them, two bytes each
 pub members : (left m v j : ℕ) → m ≤ left / 2 → leb v ((left / 2 - m) / 256 ^ j) ≡ leb (2 * (m + v * 256 ^ j)) left
-members left m v j h = go (leb v ((left / 2 - m) / 256 ^ j)) refl
-  where
-    go : (b : Bool) → leb v ((left / 2 - m) / 256 ^ j) ≡ b → b ≡ leb (2 * (m + v * 256 ^ j)) left
-    go true e = sym (le-leb (2 * (m + v * 256 ^ j)) left (omega (arith, h, at-most v j (left / 2 - m) (leb-true v ((left / 2 - m) / 256 ^ j) e))))
-    go false e = sym (lt-leb (2 * (m + v * 256 ^ j)) left (omega (arith, h, above v j (left / 2 - m) (leb-false v ((left / 2 - m) / 256 ^ j) e))))
+members left m v j h =
+    leb-same v ((left / 2 - m) / 256 ^ j) (2 * (m + v * 256 ^ j)) left
+    (λ k. omega (arith, h, at-most v j (left / 2 - m) k)) (λ k. omega (arith, h, above v j (left / 2 - m) k))
 
 -- a number without its last k bytes is zero exactly where it has no more than k
 module _ (v k : ℕ) where
@@ -65,7 +65,7 @@ module _ (v k : ℕ) where
   none-product e = rw e (omega arith)
 
   pub product-none : v * 256 ^ k ≡ 0 → v ≡ 0
-  product-none e = omega (arith, le-mul-of-pos-right v (one-le-pow k 256 (zero-lt-suc 255)))
+  product-none e = omega (arith, le-mul-of-pos-right v (power-pos k))
 
 pub none-both : (m v k : ℕ) (b : Bool) → eqb (m + v) 0 ≡ b → eqb (m + v * 256 ^ k) 0 ≡ b
 none-both m v k true e =
@@ -77,13 +77,10 @@ none-both m v k false e =
 
 -- a content and items behind it, two bytes each
 pub holds : (left m v j : ℕ) → m ≤ left / 2 → leb v ((left - 2 * m) / 256 ^ j) ≡ leb (v * 256 ^ j + 2 * m) left
-holds left m v j h = go (leb v ((left - 2 * m) / 256 ^ j)) refl
-  where
-    go : (b : Bool) → leb v ((left - 2 * m) / 256 ^ j) ≡ b → b ≡ leb (v * 256 ^ j + 2 * m) left
-    go true e = sym (le-leb (v * 256 ^ j + 2 * m) left (omega (arith, h, at-most v j (left - 2 * m) (leb-true v ((left - 2 * m) / 256 ^ j) e))))
-    go false e = sym (lt-leb (v * 256 ^ j + 2 * m) left (omega (arith, h, above v j (left - 2 * m) (leb-false v ((left - 2 * m) / 256 ^ j) e))))
+holds left m v j h =
+    leb-same v ((left - 2 * m) / 256 ^ j) (v * 256 ^ j + 2 * m) left
+    (λ k. omega (arith, h, at-most v j (left - 2 * m) k)) (λ k. omega (arith, h, above v j (left - 2 * m) k))
 
 -- j length bytes come off first
-pub room : (n j k m : ℕ) (b : Bool) → j ≤ n → leb (k + 2 * m) (n - j) ≡ b → leb (j + k + 2 * m) n ≡ b
-room n j k m true h e = le-leb (j + k + 2 * m) n (omega (arith, leb-true (k + 2 * m) (n - j) e))
-room n j k m false h e = lt-leb (j + k + 2 * m) n (omega (arith, leb-false (k + 2 * m) (n - j) e))
+pub room : (n j k m : ℕ) → j ≤ n → leb (j + k + 2 * m) n ≡ leb (k + 2 * m) (n - j)
+room n j k m h = leb-same (j + k + 2 * m) n (k + 2 * m) (n - j) (λ e. omega arith) (λ e. omega arith)

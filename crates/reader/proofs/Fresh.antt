@@ -11,7 +11,7 @@ use Rattle.wire.specs.Longest.{longest}
 use Rattle.item.specs.declared.Form.{Form}
 use Rattle.levels.specs.Levels.{total}
 use Rattle.follow.proofs.Sizes.{Fill}
-use Rattle.follow.proofs.Exist.{shallow-fill, awaited-of}
+use Rattle.follow.proofs.Exist.{two-at-least, shallow-fill, awaited-of}
 use Rattle.reader.specs.State.{State, state, readerOf, refused, fresh}
 use Rattle.reader.specs.Feed.{allows, status, statusOf}
 use Rattle.reader.specs.declared.Phase.the-variants.{Format}
@@ -28,9 +28,6 @@ one-live f n h m =
     let fill : Fill f n (1 ∷ []) = shallow-fill f n (1 ∷ []) (omega arith) (omega arith) (λ z. absurd (omega arith)) in
     let (t, w, q) = awaited-of f (1 ∷ []) n fill m (omega arith) in
     record { bounded = m; within = omega arith; shallow = omega arith; at = omega arith; follows = (t, (q ∙ omega arith, w)) }
-
-pub two : (n : ℕ) → (n ≡ 0 → ⊥) → (n ≡ 1 → ⊥) → 2 ≤ n
-two n h k = omega arith
 
 -- the reader of a state that is allowed, and the state's levels
 record Begun (s : State) : Type 0 where
@@ -52,7 +49,7 @@ fresh-begun f n = go (eqb n 0) refl (eqb n 1) refl (ltb longest n) refl
     go true a y b z c = live-begun _ (none-live f n (eqb-true n 0 a))
     go false a true b z c = refused-begun f n
     go false a false b true c = refused-begun f n
-    go false a false b false c = live-begun _ (one-live f n (two n (eqb-false n 0 a) (eqb-false n 1 b)) (ltb-false longest n c))
+    go false a false b false c = live-begun _ (one-live f n (two-at-least n (eqb-false n 0 a) (eqb-false n 1 b)) (ltb-false longest n c))
 
 -- What a fresh reader answers is the status of the fresh state.
 pub fresh-status : (f : Form) (n : ℕ) → statusOf (readerOf (fresh f n)) ≡ status (fresh f n)

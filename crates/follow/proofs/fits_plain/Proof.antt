@@ -24,7 +24,7 @@ asked d b e =
     let s = sumOf (a .l) in
     let h : leb (low + 2 * s) (a .n - a .j) ≡ b =
     rw (d .before .before .lowest-length .ensures, ← (d .before .sum .ensures)) (sym (d .holds-content .ensures) ∙ e) in
-    room (a .n) (a .j) low s b (d .before .before .before .if1 .left) h
+    room (a .n) (a .j) low s (d .before .before .before .if1 .left) ∙ h
 
 returns : tie.Need-returns
 unfolding fitsPlain
