@@ -1,0 +1,19 @@
+-- The number read so far, in front of the bytes still to read, stays the number of all of them; and it has as many bytes as were read.
+use mathlib.Core.Path.{◌≡◌, sym, ap, ◌∙◌, subst}
+use Prim.Native.Nat.{ℕ, suc, ◌+◌, ◌*◌, ◌-◌, ◌<◌, ◌≤◌, ◌^◌}
+use native.Mathlib.Numerals.{add-one}
+use native.Mathlib.Nat.{lt_of_lt_of_le, pow-le-pow_right, zero-lt-suc, pow-suc}
+use native.Mathlib.Omega.{arith}
+use lib.Arith.{digits_lt}
+use lib.ListN.{length, drop, get_or}
+use lib.Seq.{drop-cons, drop-length}
+use Rattle.wire.specs.Number.{number_of}
+use Rattle.wire.proofs.Numbers.{number_on}
+use Rattle.wire.proofs.number_of_few.Given as goal
+
+abbrev pub invariant-loop-i : goal.invariant-loop-i
+invariant-loop-i l =
+    (l.i ≤ length l.s) × (l.n < 256 ^ l.i) × (l.n * 256 ^ length (drop l.i l.s) + number_of (drop l.i l.s) ≡ number_of l.s)
+
+abbrev pub decreases-loop-i : goal.decreases-loop-i
+decreases-loop-i l = length l.s - l.i
