@@ -1,5 +1,5 @@
 -- Which lines each byte of a captured stream gives, and its end: what the fed frame reader and the fed text reader answer, as lines.
-use Rattle.std.specs.Prelude.{ℕ, ◌+◌, ◌%◌, ◌^◌, Bool, true, false, cond, [], ◌∷◌, ◌==◌}
+use Rattle.std.specs.Prelude.{ℕ, ◌+◌, ◌*◌, ◌%◌, ◌^◌, Bool, true, false, cond, [], ◌∷◌, ◌==◌}
 use Rattle.frame.specs.declared.Header.{Header}
 use Rattle.frames.specs.State.{head, reader_of as frame_reader_of}
 use Rattle.frames.specs.Feed.{end_of, fed_of as frame_fed}
@@ -7,20 +7,19 @@ use Rattle.frames.specs.declared.Event.{Event}
 use Rattle.frames.specs.declared.Event.TheVariants as E
 use Rattle.frames.specs.declared.FrameReader.{FrameReader}
 use Rattle.item.specs.declared.Form.TheVariants.{Good as good}
-use Rattle.reader.specs.State.{fresh, state_of, reader_of}
+use Rattle.reader.specs.State.{fresh, reader_of}
 use Rattle.reader.specs.Feed.{status, fed_of}
-use Rattle.reader.specs.Items.{shown}
 use Rattle.reader.specs.declared.Answer.{Answer}
 use Rattle.reader.specs.declared.Answer.TheVariants as A
-use Rattle.reader.specs.declared.Found.{Found}
-use Rattle.reader.specs.declared.Found.TheVariants as F
+use Rattle.reader.specs.declared.Phase.{Phase}
+use Rattle.reader.specs.declared.Phase.TheVariants as P
 use Rattle.reader.specs.declared.Reader.{Reader}
 use Rattle.lines.specs.declared.Line.{Line}
 use Rattle.lines.specs.declared.Line.TheVariants.{Nothing, Message, Item, Refusal, End}
 use Rattle.capture.specs.declared.Lister.{Lister}
 use Rattle.capture.specs.declared.Told.{Told}
 
--- a lister, and the lines that what came gives
+-- a lister, and the lines that a byte gives
 abbrev pub told : Lister → Line → Line → Told
 told l x y = record { lister = l; first = x; second = y }
 
@@ -28,9 +27,9 @@ told l x y = record { lister = l; first = x; second = y }
 abbrev pub behind : Line → Told → Told
 behind x t = told t.lister x t.first
 
--- a count and k more, of 2^64
-abbrev pub more_of : ℕ → ℕ → ℕ
-more_of k n = (n + k) % 2 ^ 64
+-- one more, of 2^64
+abbrev pub one_more : ℕ → ℕ
+one_more n = (n + 1) % 2 ^ 64
 
 -- ---- a lister with one part changed
 
@@ -44,14 +43,6 @@ with_text l r b = record { frames = l.frames; text = r; listed = b; stopped = l.
 abbrev pub stopped : Lister → Lister
 stopped l = record { frames = l.frames; text = l.text; listed = l.listed; stopped = true; count = l.count; bytes = l.bytes }
 
--- k bytes came, which led the frame reader to r
-abbrev pub passed : Lister → FrameReader → ℕ → Lister
-passed l r k = with_frames l r l.count (more_of k l.bytes)
-
--- bytes of a listed text came, which led its reader to r; behind a refusal the listing has stopped
-abbrev pub read_to : Lister → Reader → Bool → Lister
-read_to l r b = record { frames = l.frames; text = r; listed = true; stopped = b; count = l.count; bytes = l.bytes }
-
 -- before the stream: a reader before a frame, and no text
 unfoldable pub fresh_lister : Lister
 fresh_lister =
@@ -63,10 +54,12 @@ fresh_lister =
 unfoldable pub refused_by : ℕ → Lister → Told
 refused_by e l = told (stopped l) (Refusal e l.bytes) Nothing
 
--- I is written after the last length byte
-abbrev pub item_line : Found → Line
-item_line F.Nothing = Nothing
-item_line (F.Item d c v) = Item d c v
+-- I is written after the last length byte: v is what the length bytes before it say
+abbrev pub item_at : Phase → ℕ → ℕ → Line
+item_at P.Format depth b = Nothing
+item_at (P.Length c j v) depth b = cond (j == 1) (Item depth c (v * 256 + b)) Nothing
+item_at (P.Content c l) depth b = Nothing
+item_at (P.Refused e) depth b = Nothing
 
 -- unless refused
 abbrev pub by_answer : Answer → Line → Lister → Told
@@ -78,7 +71,7 @@ by_answer (A.Refusal e) x l = refused_by e l
 unfoldable pub text_byte : Lister → ℕ → Told
 text_byte l b =
     cond l.listed
-    (let f = fed_of l.text (b ∷ []) in by_answer f.answer (item_line (shown (state_of l.text) b)) (with_text l f.reader true))
+    (let f = fed_of l.text (b ∷ []) in by_answer f.answer (item_at l.text.phase l.text.level b) (with_text l f.reader true))
     (told l Nothing Nothing)
 
 -- items are listed for PType 0 and SType 0
@@ -103,7 +96,7 @@ abbrev pub settled_by : Event → Lister → FrameReader → Lister
 settled_by E.More l r = l
 settled_by (E.Header h n) l r = l
 settled_by (E.Text k) l r = l
-settled_by E.End l r = with_frames l r (more_of 1 l.count) l.bytes
+settled_by E.End l r = with_frames l r (one_more l.count) l.bytes
 settled_by (E.Refusal e) l r = l
 
 unfoldable pub settled : Lister → Lister
@@ -111,7 +104,7 @@ settled l = let f = frame_fed l.frames [] in settled_by f.event l f.reader
 
 -- a byte goes to the frame reader
 unfoldable pub fed_byte : Lister → ℕ → Told
-fed_byte l b = let f = frame_fed l.frames (b ∷ []) in by_event f.event b (passed l f.reader 1)
+fed_byte l b = let f = frame_fed l.frames (b ∷ []) in by_event f.event b (with_frames l f.reader l.count (one_more l.bytes))
 
 unfoldable pub byte_told : Lister → ℕ → Told
 byte_told l b = cond l.stopped (told l Nothing Nothing) (fed_byte (settled l) b)

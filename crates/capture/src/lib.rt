@@ -1,16 +1,17 @@
-ghost use Rattle.std.specs.Prelude.{◌≡◌};
-ghost use Rattle.capture.specs.Capture.{told, more_of, with_frames, with_text, fresh_lister, passed, read_to, refused_by, is_data, header_came, settled};
-ghost use Rattle.capture.specs.Capture.{ended_by, last_line};
+ghost use Rattle.std.specs.Prelude.{◌≡◌, true};
+ghost use Rattle.reader.specs.Feed.{allows};
+ghost use Rattle.capture.specs.Capture.{told, one_more, with_frames, with_text, fresh_lister, refused_by, item_at};
+ghost use Rattle.capture.specs.Capture.{text_byte, is_data, header_came, settled, fed_byte, byte_told, ended_by, last_line};
 
 use frame::Header;
 use frames::{Event, FrameReader};
 use item::Form;
 use lines::Line;
-use reader::{Answer, Reader};
+use reader::{Answer, Phase, Reader};
 
 // The readers of the stream's frames and of the text that comes, whether that text is listed, whether the listing has stopped, and the frames and bytes that
 // came.
-#[derive(Drop)]
+#[derive(Clone, Copy)]
 pub struct Lister {
     pub frames: FrameReader,
     pub text: Reader,
@@ -20,8 +21,8 @@ pub struct Lister {
     pub bytes: u64,
 }
 
-// The lister behind what came, and the lines that it gives.
-#[derive(Drop)]
+// The lister after a byte, and the lines that the byte gives.
+#[derive(Clone, Copy)]
 pub struct Told {
     pub lister: Lister,
     pub first: Line,
@@ -97,42 +98,65 @@ pub fn fresh_lister() -> Lister
     }
 }
 
-// A count and so many more, of 2^64.
-pub fn more_of(k: u64, n: u64) -> u64
-    ensures { result ≡ more_of k n }
+fn one_more(n: u64) -> u64
+    ensures { result ≡ one_more n }
 {
-    std::num::wrapping_add_u64(n, k)
+    std::num::wrapping_add_u64(n, 1)
 }
 
-// ---- what came
-
-// k bytes, which led the frame reader to this one.
-pub fn pass(l: Lister, frames: FrameReader, k: u64) -> Lister
-    ensures { result ≡ passed l frames k }
-{
-    with_frames(l, frames, l.count, more_of(k, l.bytes))
-}
-
-// Bytes of a listed text, which led its reader to this one; behind a refusal the listing has stopped.
-pub fn read_to(l: Lister, text: Reader, stopped: bool) -> Lister
-    ensures { result ≡ read_to l text stopped }
-{
-    let frames = l.frames;
-    Lister {
-        frames,
-        text,
-        listed: true,
-        stopped,
-        count: l.count,
-        bytes: l.bytes,
-    }
-}
+// ---- a byte
 
 // X, behind which the listing has stopped.
-pub fn refuse(l: Lister, number: u32) -> Told
+fn refuse(l: Lister, number: u32) -> Told
     ensures { result ≡ refused_by number l }
 {
     told_of(stop(l), Line::Refusal(number, l.bytes), Line::Nothing)
+}
+
+// I behind an item's last length byte.
+fn item_came(text: Reader, b: u8) -> Line
+    requires { allows text ≡ true }
+    ensures { result ≡ item_at text.phase text.level b }
+{
+    let depth = text.level;
+    let phase = text.phase;
+    match phase {
+        Phase::Format => Line::Nothing,
+        Phase::Length { code, left, value } => if left == 1 {
+            Line::Item(depth, code, value * 256 + (b as usize))
+        } else {
+            Line::Nothing
+        },
+        Phase::Content { code: _, left: _ } => Line::Nothing,
+        Phase::Refused(_) => Line::Nothing,
+    }
+}
+
+// A byte of a text that is listed.
+fn listed_byte(l: Lister, b: u8) -> Told
+    requires { l.listed ≡ true }
+    ensures { result ≡ text_byte l b }
+{
+    let text = l.text;
+    let f = reader::feed(text, &[b]);
+    let answer = f.answer;
+    let next = f.reader;
+    let t = with_text(l, next, true);
+    match answer {
+        Answer::More => told_of(t, item_came(text, b), Line::Nothing),
+        Answer::Complete => told_of(t, item_came(text, b), Line::Nothing),
+        Answer::Refusal(number) => refuse(t, number),
+    }
+}
+
+fn text_byte(l: Lister, b: u8) -> Told
+    ensures { result ≡ text_byte l b }
+{
+    if l.listed {
+        listed_byte(l, b)
+    } else {
+        told_of(l, Line::Nothing, Line::Nothing)
+    }
 }
 
 fn is_data(h: Header) -> bool
@@ -142,7 +166,7 @@ fn is_data(h: Header) -> bool
 }
 
 // M, and the text's reader, which may refuse before a byte.
-pub fn header_came(l: Lister, h: Header, n: usize) -> Told
+fn header_came(l: Lister, h: Header, n: usize) -> Told
     ensures { result ≡ header_came l h n }
 {
     let m = Line::Message(h, n);
@@ -162,7 +186,7 @@ pub fn header_came(l: Lister, h: Header, n: usize) -> Told
 }
 
 // Behind a frame's last byte comes its end.
-pub fn settle(l: Lister) -> Lister
+fn settle(l: Lister) -> Lister
     ensures { result ≡ settled l }
 {
     let old = l.frames;
@@ -173,8 +197,36 @@ pub fn settle(l: Lister) -> Lister
         Event::More => l,
         Event::Header(_, _) => l,
         Event::Text(_) => l,
-        Event::End => with_frames(l, next, more_of(1, l.count), l.bytes),
+        Event::End => with_frames(l, next, one_more(l.count), l.bytes),
         Event::Refusal(_) => l,
+    }
+}
+
+fn feed_byte(l: Lister, b: u8) -> Told
+    ensures { result ≡ fed_byte l b }
+{
+    let old = l.frames;
+    let f = frames::feed(old, &[b]);
+    let event = f.event;
+    let next = f.reader;
+    let t = with_frames(l, next, l.count, one_more(l.bytes));
+    match event {
+        Event::More => told_of(t, Line::Nothing, Line::Nothing),
+        Event::Header(h, n) => header_came(t, h, n),
+        Event::Text(_) => text_byte(t, b),
+        Event::End => told_of(t, Line::Nothing, Line::Nothing),
+        Event::Refusal(number) => refuse(t, number),
+    }
+}
+
+// One byte of the stream.
+pub fn byte_came(l: Lister, b: u8) -> Told
+    ensures { result ≡ byte_told l b }
+{
+    if l.stopped {
+        told_of(l, Line::Nothing, Line::Nothing)
+    } else {
+        feed_byte(settle(l), b)
     }
 }
 

@@ -8,7 +8,7 @@ use slots::Query;
 use state::Device;
 
 // What a row of the device answers: the number, the device then, whether the fresh number was taken, and at most one message to send.
-#[derive(Drop)]
+#[derive(Clone, Copy)]
 pub struct Acted {
     pub number: u32,
     pub device: Device,

@@ -12,7 +12,7 @@ use wire::{Bits, Width};
 
 // A signed number, an unsigned number, an F4, an F8 or a plain byte. The bits of an F4 or an F8 stand in for a NaN, whose pattern
 // no f32 or f64 carries.
-#[derive(Drop)]
+#[derive(Clone, Copy)]
 pub enum Element {
     Signed(i64),
     Unsigned(u64),
@@ -24,7 +24,7 @@ pub enum Element {
 }
 
 // What the elements of a code are.
-#[derive(Drop)]
+#[derive(Clone, Copy)]
 enum Sort {
     Signed,
     Unsigned,
@@ -126,7 +126,7 @@ pub fn f8_bits(x: f64) -> u64
 }
 
 // Where an element lies in its content, and how wide it is; or a refusal's number.
-#[derive(Drop)]
+#[derive(Clone, Copy)]
 enum Place {
     At(usize, usize),
     Refused(u32),
@@ -160,7 +160,7 @@ fn place_of(code: u32, size: usize, i: usize) -> Place
 }
 
 // An element, or a refusal's number.
-#[derive(Drop)]
+#[derive(Clone, Copy)]
 pub enum Got {
     Is(Element),
     Refused(u32),
@@ -205,7 +205,7 @@ pub fn get(code: u32, content: &[u8], i: usize) -> Got
 }
 
 // The number that an element's bytes are, or a refusal's number.
-#[derive(Drop)]
+#[derive(Clone, Copy)]
 enum Raw {
     Is(u64),
     Refused(u32),

@@ -1,5 +1,5 @@
 use bytes::scan;
-use hex::Said;
+use hexes::Said;
 use item::Form;
 use libc::{STDIN_FILENO, STDOUT_FILENO};
 use reader::{Answer, Phase, Reader};
@@ -132,7 +132,7 @@ fn line(r: Reader, s: &[u8]) -> Reader {
         return r;
     }
     let mut said = records::room();
-    match hex::bytes_in(&s[1..], &mut said) {
+    match hexes::bytes_in(&s[1..], &mut said) {
         Said::Bytes(n) => if n <= said.len() {
             record(r, letter, &said[0..n])
         } else {

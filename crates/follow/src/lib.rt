@@ -64,7 +64,7 @@ pub fn may_lead(form: Form, v: usize) -> bool
 }
 
 // A length: a value with so many bytes 00 behind it.
-#[derive(Drop)]
+#[derive(Clone, Copy)]
 struct Padded {
     value: usize,
     zeros: usize,

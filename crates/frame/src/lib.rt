@@ -6,7 +6,7 @@ ghost use Rattle.frame.specs.Frame.{length_in, length_number, kind_number, frame
 use wire::{Counted, LONGEST};
 
 // The ten header bytes of a frame, by name.
-#[derive(Drop)]
+#[derive(Clone, Copy)]
 pub struct Header {
     pub session: u16,
     pub byte2: u8,

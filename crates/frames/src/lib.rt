@@ -8,7 +8,7 @@ ghost use Rattle.frames.specs.Asked.{Held};
 use wire::LONGEST;
 
 // Which bytes come next: of a frame's length and header, of its text, or none since it was refused.
-#[derive(Drop)]
+#[derive(Clone, Copy)]
 pub enum Phase {
     Head,
     Text,
@@ -16,7 +16,7 @@ pub enum Phase {
 }
 
 // The bytes of a frame's head that came, and how many; the text bytes that are still to come.
-#[derive(Drop)]
+#[derive(Clone, Copy)]
 pub struct FrameReader {
     pub held: [u8; 14],
     pub count: usize,
@@ -25,7 +25,7 @@ pub struct FrameReader {
 }
 
 // What a piece reached: nothing yet; a whole header, with its text's length; text bytes, the first so many of the piece; a frame's end; a refusal.
-#[derive(Drop)]
+#[derive(Clone, Copy)]
 pub enum Event {
     More,
     Header(frame::Header, usize),
@@ -35,7 +35,7 @@ pub enum Event {
 }
 
 // What a feed answers, the bytes of the piece that it consumed, and the reader after it.
-#[derive(Drop)]
+#[derive(Clone, Copy)]
 pub struct Fed {
     pub event: Event,
     pub consumed: usize,

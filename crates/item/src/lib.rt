@@ -6,14 +6,14 @@ ghost use Rattle.item.specs.Item.{fewest, limit};
 pub const L: u32 = 0o00;
 
 // The width of a content's elements, and the least length of a content that is not empty.
-#[derive(Drop)]
+#[derive(Clone, Copy)]
 pub struct Sizes {
     pub width: usize,
     pub least: usize,
 }
 
 // What a format code stands for: a list, a content of such sizes, or nothing.
-#[derive(Drop)]
+#[derive(Clone, Copy)]
 pub enum Kind {
     List,
     Plain(Sizes),
@@ -45,7 +45,7 @@ pub fn kind_of(code: u32) -> Kind
 }
 
 // A code's name: its letters, 00 up to seven bytes, and how many they are. An unknown code has none.
-#[derive(Drop)]
+#[derive(Clone, Copy)]
 pub struct Name(pub [u8; 7], pub usize);
 
 pub fn name_of(code: u32) -> Name
@@ -107,7 +107,7 @@ pub fn largest_byte(code: u32) -> u8
 }
 
 // What is asked of a text: that it is good, or that it is lean.
-#[derive(Drop)]
+#[derive(Clone, Copy)]
 pub enum Form {
     Good,
     Lean,

@@ -1,15 +1,19 @@
 -- Bytes stored one behind another are one store.
-use Prim.Native.Nat.{ℕ, ◌+◌, ◌≤◌}
-use mathlib.Core.List.{List, [], ◌++◌}
-use mathlib.Core.Path.{◌≡◌, refl, ap, ◌∙◌}
+use Prim.Native.Nat.{ℕ, ◌+◌}
+use mathlib.Core.List.{List, ◌++◌}
+use mathlib.Core.Path.{◌≡◌, ap, ◌∙◌}
 use native.Mathlib.Omega.{arith}
-use borrow.Author.Tests.{le-leb}
 use lib.ListN.{length, length-append}
 use lib.Seq.{sets, length-sets}
 use Rattle.wire.proofs.Stores.{sets_append}
-use Rattle.lines.specs.Stored.{Stored}
-use Rattle.lines.specs.Text.{line_text, place_behind, out_behind}
-use Rattle.lines.specs.declared.Line.{Line}
+
+-- v was stored at a place of s, which gave t, and end is the place behind it
+pub record Stored (s : List ℕ) (at : ℕ) (v t : List ℕ) (end : ℕ) : Type 0 where
+  pub is : t ≡ sets s at v
+  pub behind : end ≡ at + length v
+
+pub stored : {s v t : List ℕ} {at end : ℕ} → (end ≡ at + length v) × (t ≡ sets s at v) → Stored s at v t end
+stored (e, p) = record { is = p; behind = e }
 
 pub kept : {s v t : List ℕ} {at end : ℕ} → Stored s at v t end → length t ≡ length s
 kept {s = s} {v = v} {at = at} h = ap length h.is ∙ length-sets s at v
@@ -21,16 +25,6 @@ then {s = s} {v = v} {w = w} {at = at} g h =
       behind = omega (arith, g.behind, h.behind, length-append v w);
     }
 
--- by another name of what is stored
-pub stored_as : {s u v v' : List ℕ} {at end : ℕ} → v ≡ v' → Stored s at v' u end → Stored s at v u end
-stored_as e h = rw e h
-
-pub stored_none : (s : List ℕ) (at : ℕ) → Stored s at [] s at
-stored_none s at = record { is = refl; behind = omega arith }
-
--- a line that is printed where there is room for it is stored
-pub printed_stored : (x : Line) (s t : List ℕ) (at end : ℕ) → at + 149 ≤ length s → (end ≡ place_behind x (length s) at) × (t ≡ out_behind x s at)
-    → Stored s at (line_text x) t end
-printed_stored x s t at end h (e, f) =
-    let room = le-leb (at + 149) (length s) h in
-    record { is = rw room at f; behind = rw room at e }
+-- at the start of an output, by another name of what is stored
+pub first_as : {s u v' : List ℕ} {a : ℕ} (v : List ℕ) → v ≡ v' → Stored s 0 v' u a → (a ≡ length v) × (u ≡ sets s 0 v)
+first_as v e h = rw e (omega (arith, h.behind), h.is)

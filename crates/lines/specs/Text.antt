@@ -1,6 +1,5 @@
 -- What is printed of a line: a letter, fields behind tabs, numbers decimal, a line end.
-use Rattle.std.specs.Prelude.{ℕ, ◌+◌, Bool, cond, List, [], ◌∷◌, ◌++◌, leb, length}
-use Rattle.std.proofs.lemmas.List.Edits.{sets}
+use Rattle.std.specs.Prelude.{ℕ, List, [], ◌∷◌, ◌++◌}
 use Rattle.item.specs.Code.{codes, found, letters}
 use Rattle.frame.specs.declared.Header.{Header}
 use Rattle.lines.specs.Decimal.{decimal_of}
@@ -50,14 +49,3 @@ line_text (Message h n) = message_line h n
 line_text (Item depth code size) = item_line depth code size
 line_text (Refusal number bytes) = refusal_line number bytes
 line_text (End frames bytes) = end_line frames bytes
-
--- ---- at a place of an output, where 149 bytes are left: no line has more (lines/Short: line-short)
-
-abbrev pub has_room : ℕ → ℕ → Bool
-has_room size at = leb (at + 149) size
-
-abbrev pub place_behind : Line → ℕ → ℕ → ℕ
-place_behind x size at = cond (has_room size at) (at + length (line_text x)) at
-
-abbrev pub out_behind : Line → List ℕ → ℕ → List ℕ
-out_behind x out at = cond (has_room (length out) at) (sets out at (line_text x)) out

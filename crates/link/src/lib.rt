@@ -7,7 +7,7 @@ use message::Send;
 use state::{Link, Phase};
 
 // What a row of the link answers: the number, the link then, whether the data slots are emptied, and at most one message to send.
-#[derive(Drop)]
+#[derive(Clone, Copy)]
 pub struct Linked {
     pub number: u32,
     pub link: Link,

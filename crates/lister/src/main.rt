@@ -1,16 +1,12 @@
-// Lists the captured byte stream on standard input: blocks are read as they come, handed to the library, and what it printed is written.
+// Lists the captured byte stream on standard input: blocks are read, handed to the library, and what it printed is written.
 use capture::Lister;
 use libc::{STDERR_FILENO, STDIN_FILENO, STDOUT_FILENO};
 
 // The lister behind a block, and whether to go on: it has not stopped, and what it printed was written.
-#[derive(Drop)]
+#[derive(Clone, Copy)]
 struct Turn {
     lister: Lister,
     goes_on: bool,
-}
-
-fn cannot_read() {
-    io::write_all(STDERR_FILENO, b"lister: standard input cannot be read\n");
 }
 
 fn cannot_write() {
@@ -49,7 +45,7 @@ fn list_block(l: Lister, block: &[u8]) -> Turn {
 fn list_end(l: Lister) {
     let mut out = [0u8; 160];
     let line = capture::last_line(l);
-    let n = lines::print(&mut out, 0, line);
+    let n = lines::print(line, &mut out);
     if io::write_all(STDOUT_FILENO, &out[0..n]) {} else {
         cannot_write();
     }
@@ -61,12 +57,7 @@ fn main() {
     let mut state = capture::fresh_lister();
     let mut blocks = u64::MAX;
     while blocks > 0 {
-        let got = libc::read(STDIN_FILENO, &mut block);
-        if got < 0 {
-            cannot_read();
-            return;
-        }
-        let n = io::count(got, &block);
+        let n = io::read_full(STDIN_FILENO, &mut block);
         if n == 0 {
             break;
         }

@@ -11,7 +11,7 @@ use lib.Seq.{sets, length-sets}
 use Rattle.lines.specs.Text.{line_text}
 use Rattle.capture.specs.Capture.{fresh_lister, last_line}
 use Rattle.listing.specs.Listing.{Printed, printed, behind, byte_printed, bytes_printed, listing_of}
-use Rattle.listing.specs.Piece.{Run, onward, none, run, listed_by}
+use Rattle.listing.specs.Piece.{Run, one, none, run, listed_by}
 use Rattle.listing.specs.Calls.{Call, run_of, called, eaten}
 use Rattle.capture.specs.declared.Lister.{Lister}
 use Rattle.listing.specs.declared.Listed.{Listed}
@@ -43,12 +43,9 @@ run_printed l room (b ∷ p) = go (leb 320 room) (run_printed (byte_printed l b)
     go : (t : Bool)
         → bytes_printed (byte_printed l b).lister (take (run (byte_printed l b).lister (room - length (byte_printed l b).lines) p).consumed p)
         ≡ printed_by (run (byte_printed l b).lister (room - length (byte_printed l b).lines) p)
-        → bytes_printed l (take (cond t (onward 1 (byte_printed l b).lines (run (byte_printed l b).lister (room - length (byte_printed l b).lines) p)) (none l)).consumed (b ∷ p))
-        ≡ printed_by (cond t (onward 1 (byte_printed l b).lines (run (byte_printed l b).lister (room - length (byte_printed l b).lines) p)) (none l))
-    go true h =
-        let r = run (byte_printed l b).lister (room - length (byte_printed l b).lines) p in
-        let e : 1 + r.consumed ≡ suc r.consumed = omega arith in
-        ap (λ (n : ℕ). bytes_printed l (take n (b ∷ p))) e ∙ ap (behind (byte_printed l b).lines) h
+        → bytes_printed l (take (cond t (one (byte_printed l b) (run (byte_printed l b).lister (room - length (byte_printed l b).lines) p)) (none l)).consumed (b ∷ p))
+        ≡ printed_by (cond t (one (byte_printed l b) (run (byte_printed l b).lister (room - length (byte_printed l b).lines) p)) (none l))
+    go true h = ap (behind (byte_printed l b).lines) h
     go false h = refl
 
 pub run_within : (l : Lister) (room : ℕ) (p : List ℕ) → (run l room p).consumed ≤ length p
@@ -58,7 +55,7 @@ run_within l room (b ∷ p) = go (leb 320 room) (run_within (byte_printed l b).l
   where
     go : (t : Bool)
         → (run (byte_printed l b).lister (room - length (byte_printed l b).lines) p).consumed ≤ length p
-        → (cond t (onward 1 (byte_printed l b).lines (run (byte_printed l b).lister (room - length (byte_printed l b).lines) p)) (none l)).consumed ≤ suc (length p)
+        → (cond t (one (byte_printed l b) (run (byte_printed l b).lister (room - length (byte_printed l b).lines) p)) (none l)).consumed ≤ suc (length p)
     go true h = omega (arith, h)
     go false h = omega arith
 
@@ -93,7 +90,7 @@ run_fits l room (b ∷ p) = go (leb 320 room) refl (run_fits (byte_printed l b).
   where
     go : (t : Bool) → leb 320 room ≡ t
         → length (run (byte_printed l b).lister (room - length (byte_printed l b).lines) p).lines ≤ room - length (byte_printed l b).lines
-        → length (cond t (onward 1 (byte_printed l b).lines (run (byte_printed l b).lister (room - length (byte_printed l b).lines) p)) (none l)).lines ≤ room
+        → length (cond t (one (byte_printed l b) (run (byte_printed l b).lister (room - length (byte_printed l b).lines) p)) (none l)).lines ≤ room
     go true e h =
         omega (arith, length-append (byte_printed l b).lines (run (byte_printed l b).lister (room - length (byte_printed l b).lines) p).lines, byte_short l b, leb-true 320 room e, h)
     go false e h = omega arith

@@ -6,7 +6,6 @@ use Rattle.levels.specs.Levels.{total, leaving, stack_of, levels_of, clean_of}
 use Rattle.follow.specs.Fits.{gap, fits_items, leads, lowest, holds_members, fits_list, fits_plain, fits_lengths}
 use Rattle.reader.specs.State.{fresh}
 use Rattle.reader.specs.Step.{known, at_format, at_list, at_plain, at_length, at_content, step_at, step}
-use Rattle.reader.specs.Items.{shown}
 use Rattle.reader.specs.Feed.{allows_phase, allows_frame, allows_end, allows, status, eat, fed_of}
 use Rattle.frame.specs.Header.{header_of}
 use Rattle.frame.specs.Frame.{length_number, kind_number}
@@ -21,7 +20,7 @@ use Rattle.listing.specs.Listing.{byte_printed, bytes_printed, listing_of}
 -- DOCUMENT 01'S EXAMPLE.
 pub example : listing_of stream ≡ lines
 unfolding number_of kind_of allowed largest total leaving stack_of levels_of clean_of gap fits_items leads lowest holds_members fits_list fits_plain
-    fits_lengths fresh known at_format at_list at_plain at_length at_content step_at step allows_phase allows_frame allows_end allows status eat fed_of shown header_of
+    fits_lengths fresh known at_format at_list at_plain at_length at_content step_at step allows_phase allows_frame allows_end allows status eat fed_of header_of
     length_number kind_number reader_of state_of head_number after text_fed end_of allows_frames eat_head fed_frames spelled fields message_line item_line end_line
     fresh_lister text_byte header_came settled fed_byte byte_told ended_by last_line byte_printed bytes_printed listing_of
 example = refl

@@ -1,9 +1,6 @@
 pub mod Short
-pub mod Blocks
-pub mod Frames
-pub mod Texts
-pub mod Turns
-pub mod Parts
+pub mod Placed
+pub mod Runs
 pub mod Cutting
 pub mod Example
 pub mod Determined

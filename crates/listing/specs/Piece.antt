@@ -1,6 +1,6 @@
 -- A piece is listed into a lent output, while there is room for what one byte may print.
-use Rattle.std.specs.Prelude.{ℕ, ◌+◌, ◌-◌, cond, List, [], ◌∷◌, ◌++◌, leb, length}
-use Rattle.listing.specs.Listing.{byte_printed}
+use Rattle.std.specs.Prelude.{ℕ, suc, ◌-◌, cond, List, [], ◌∷◌, ◌++◌, leb, length}
+use Rattle.listing.specs.Listing.{Printed, byte_printed}
 use Rattle.capture.specs.declared.Lister.{Lister}
 use Rattle.listing.specs.declared.Listed.{Listed}
 
@@ -10,9 +10,8 @@ pub record Run : Type 0 where
   pub consumed : ℕ
   pub lines : List ℕ
 
--- the run behind k bytes, which print s
-abbrev pub onward : ℕ → List ℕ → Run → Run
-onward k s r = record { lister = r.lister; consumed = k + r.consumed; lines = s ++ r.lines }
+abbrev pub one : Printed → Run → Run
+one t r = record { lister = r.lister; consumed = suc r.consumed; lines = t.lines ++ r.lines }
 
 abbrev pub none : Lister → Run
 none l = record { lister = l; consumed = 0; lines = [] }
@@ -21,7 +20,7 @@ none l = record { lister = l; consumed = 0; lines = [] }
 unfoldable pub run : Lister → ℕ → List ℕ → Run
 run l room [] = none l
 run l room (b ∷ s) =
-    cond (leb 320 room) (onward 1 (byte_printed l b).lines (run (byte_printed l b).lister (room - length (byte_printed l b).lines) s)) (none l)
+    cond (leb 320 room) (one (byte_printed l b) (run (byte_printed l b).lister (room - length (byte_printed l b).lines) s)) (none l)
 
 abbrev pub listed_by : Run → Listed
 listed_by r = record { lister = r.lister; consumed = r.consumed; used = length r.lines }

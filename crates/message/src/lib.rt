@@ -7,7 +7,7 @@ use frame::Header;
 use wire::Counted;
 
 // A received message: control of a kind, or data.
-#[derive(Drop)]
+#[derive(Clone, Copy)]
 pub enum Received {
     Reject(Header),
     OtherPType(Header),
@@ -23,7 +23,7 @@ pub enum Received {
 }
 
 // The text of a message to send: none, an S9's item about a header, or the wish's.
-#[derive(Drop)]
+#[derive(Clone, Copy)]
 pub enum Text {
     Empty,
     About(Header),
@@ -31,7 +31,7 @@ pub enum Text {
 }
 
 // At most one message to send.
-#[derive(Drop)]
+#[derive(Clone, Copy)]
 pub enum Send {
     Nothing,
     Message(Header, Text),

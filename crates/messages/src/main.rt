@@ -3,7 +3,7 @@ ghost use Rattle.std.specs.Prelude.{◌≤◌};
 use bytes::scan;
 use frame::Header;
 use frames::{Event, FrameReader};
-use hex::Said;
+use hexes::Said;
 use libc::{STDIN_FILENO, STDOUT_FILENO};
 use outbox::Dropped;
 use wire::Counted;
@@ -22,7 +22,7 @@ fn decimal(n: usize) {
 fn digits(s: &[u8]) {
     let mut out = records::room();
     put(b"\t");
-    match hex::hex_of(s, &mut out) {
+    match hexes::hex_of(s, &mut out) {
         Counted::Is(n) => if n <= out.len() {
             put(&out[0..n]);
         },
@@ -42,13 +42,13 @@ fn answer(c: Counted) {
 
 // ---- what is kept
 
-#[derive(Drop)]
+#[derive(Clone, Copy)]
 struct Outbox {
     bytes: [u8; 256],
     used: usize,
 }
 
-#[derive(Drop)]
+#[derive(Clone, Copy)]
 struct Kept {
     reader: FrameReader,
     control: Outbox,
@@ -273,7 +273,7 @@ fn next(k: Kept) -> Kept {
 }
 
 // A drop's number, 0 for success, and the used counts after it.
-#[derive(Drop)]
+#[derive(Clone, Copy)]
 struct Counts {
     number: u32,
     control: usize,
@@ -373,7 +373,7 @@ fn line(k: Kept, l: &[u8]) -> Kept {
         return k;
     }
     let mut said = records::room();
-    match hex::bytes_in(&l[1..], &mut said) {
+    match hexes::bytes_in(&l[1..], &mut said) {
         Said::Bytes(n) => if n <= said.len() {
             record(k, letter, &said[0..n])
         } else {

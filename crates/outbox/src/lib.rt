@@ -156,7 +156,7 @@ fn drop_first(s: &mut [u8], used: usize) -> usize
 }
 
 // Which outbox a message was dropped from, with its used count then.
-#[derive(Drop)]
+#[derive(Clone, Copy)]
 pub enum Dropped {
     Control(usize),
     Data(usize),

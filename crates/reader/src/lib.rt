@@ -13,7 +13,7 @@ use levels::Levels;
 use wire::LONGEST;
 
 // What the next byte is. At least one length byte, or one content byte, is left in Length and Content.
-#[derive(Drop)]
+#[derive(Clone, Copy)]
 pub enum Phase {
     Format,
     Length {
@@ -29,7 +29,7 @@ pub enum Phase {
 }
 
 // The form that is asked for, N, the bytes read, and awaited[d - 1] the items still awaited at depth d, the innermost open depth being level.
-#[derive(Drop)]
+#[derive(Clone, Copy)]
 pub struct Reader {
     pub form: Form,
     pub size: usize,
@@ -39,7 +39,7 @@ pub struct Reader {
     pub phase: Phase,
 }
 
-#[derive(Drop)]
+#[derive(Clone, Copy)]
 pub enum Answer {
     More,
     Complete,
@@ -47,7 +47,7 @@ pub enum Answer {
 }
 
 // What a feed answers, the bytes of the piece that it consumed, and the reader after it.
-#[derive(Drop)]
+#[derive(Clone, Copy)]
 pub struct Fed {
     pub answer: Answer,
     pub consumed: usize,
@@ -55,14 +55,14 @@ pub struct Fed {
 }
 
 // The item that a byte shows, as the last of its length bytes: its depth, code and length.
-#[derive(Drop)]
+#[derive(Clone, Copy)]
 pub enum Found {
     Nothing,
     Item(usize, u32, usize),
 }
 
 // What was found, what a feed of the bytes consumed answers, how many they are, and the reader after them.
-#[derive(Drop)]
+#[derive(Clone, Copy)]
 pub struct Reached {
     pub found: Found,
     pub answer: Answer,
@@ -71,7 +71,7 @@ pub struct Reached {
 }
 
 // The reader behind the bytes of a piece that are taken at once, and how many they are.
-#[derive(Drop)]
+#[derive(Clone, Copy)]
 struct Taken {
     reader: Reader,
     used: usize,

@@ -18,7 +18,7 @@ pub use state::{Device, Link, Made, Phase, Session, new_session};
 pub use wire::Counted;
 
 // T3 of the own primary with these system bytes, T6 of the linktest, T7, T8.
-#[derive(Drop)]
+#[derive(Clone, Copy)]
 pub enum Timer {
     T3(u32),
     T6,
@@ -27,7 +27,7 @@ pub enum Timer {
 }
 
 // What is wished. A flag is of a stream; a primary has W, a stream and a function; a reply and an abort name a received primary by its system bytes.
-#[derive(Drop)]
+#[derive(Clone, Copy)]
 pub enum Wish {
     Connect,
     Disconnect,
@@ -39,7 +39,7 @@ pub enum Wish {
     Separate,
 }
 
-#[derive(Drop)]
+#[derive(Clone, Copy)]
 pub enum Event {
     Timer(Timer),
     Wish(Wish),
@@ -47,7 +47,7 @@ pub enum Event {
 }
 
 // What an event answers: the number, the new state, and at most one message to send.
-#[derive(Drop)]
+#[derive(Clone, Copy)]
 pub struct Stepped {
     pub number: u32,
     pub session: Session,

@@ -1,5 +1,5 @@
 use bytes::scan;
-use hex::Said;
+use hexes::Said;
 use libc::{STDIN_FILENO, STDOUT_FILENO};
 use session::{Counted, Device, Event, Link, Phase, Send, Session, Timer, Wish};
 use slots::{Linktest, Slot};
@@ -18,7 +18,7 @@ fn decimal(n: usize) {
 fn digits(s: &[u8]) {
     let mut out = records::room();
     put(b"\t");
-    match hex::hex_of(s, &mut out) {
+    match hexes::hex_of(s, &mut out) {
         Counted::Is(n) => if n <= out.len() {
             put(&out[0..n]);
         },
@@ -318,7 +318,7 @@ fn line(s: Session, l: &[u8]) -> Session {
         return s;
     }
     let mut said = records::room();
-    match hex::bytes_in(&l[1..], &mut said) {
+    match hexes::bytes_in(&l[1..], &mut said) {
         Said::Bytes(n) => if n <= said.len() {
             record(s, letter, &said[0..n])
         } else {

@@ -2,7 +2,7 @@ ghost use Rattle.std.specs.Prelude.{◌≡◌, set};
 ghost use Rattle.slots.specs.Slots.{free, slot_of, no_slots, no_test, test_of, passes, found_at, runs, is_primary};
 
 // An open message: its system bytes, stream and function. A free slot is all zero.
-#[derive(Drop)]
+#[derive(Clone, Copy)]
 pub struct Slot {
     pub taken: bool,
     pub system: u32,
@@ -11,14 +11,14 @@ pub struct Slot {
 }
 
 // The own linktest, with its system bytes. A closed one is all zero.
-#[derive(Drop)]
+#[derive(Clone, Copy)]
 pub struct Linktest {
     pub running: bool,
     pub system: u32,
 }
 
 // What is looked for among slots: a free slot; a taken one; these system bytes; the primary that system bytes, stream and function answer.
-#[derive(Drop)]
+#[derive(Clone, Copy)]
 pub enum Query {
     Free,
     Taken,

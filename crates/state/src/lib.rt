@@ -4,7 +4,7 @@ ghost use Rattle.state.specs.State.{with_received, with_own, with_flag, received
 
 use slots::{Linktest, Query, Slot};
 
-#[derive(Drop)]
+#[derive(Clone, Copy)]
 pub enum Phase {
     NotConnected,
     NotSelected,
@@ -12,7 +12,7 @@ pub enum Phase {
 }
 
 // The connection: its phase, the own linktest, the next own number.
-#[derive(Drop)]
+#[derive(Clone, Copy)]
 pub struct Link {
     pub phase: Phase,
     pub linktest: Linktest,
@@ -20,7 +20,7 @@ pub struct Link {
 }
 
 // The device: its ID, a flag for each stream, the open received primaries and the open own ones.
-#[derive(Drop)]
+#[derive(Clone, Copy)]
 pub struct Device {
     pub id: u16,
     pub flags: [bool; 128],
@@ -28,14 +28,14 @@ pub struct Device {
     pub own: [Slot; 32],
 }
 
-#[derive(Drop)]
+#[derive(Clone, Copy)]
 pub struct Session {
     pub link: Link,
     pub device: Device,
 }
 
 // A session that is made, or the number 28 with a state that the list does not allow.
-#[derive(Drop)]
+#[derive(Clone, Copy)]
 pub struct Made {
     pub number: u32,
     pub session: Session,

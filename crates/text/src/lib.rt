@@ -61,7 +61,7 @@ fn behind(r: Row) -> usize
 }
 
 // How many rows a text has, and how many bytes its lean form.
-#[derive(Drop)]
+#[derive(Clone, Copy)]
 pub enum Measured {
     Are { rows: usize, bytes: usize },
     Refused(u32),

@@ -1,5 +1,5 @@
 use bytes::scan;
-use hex::Said;
+use hexes::Said;
 use item::Form;
 use libc::{STDIN_FILENO, STDOUT_FILENO};
 use rows::Row;
@@ -20,7 +20,7 @@ fn decimal(n: usize) {
 fn digits(s: &[u8]) {
     let mut out = records::room();
     put(b"\t");
-    match hex::hex_of(s, &mut out) {
+    match hexes::hex_of(s, &mut out) {
         Counted::Is(n) => if n <= out.len() {
             put(&out[0..n]);
         },
@@ -187,7 +187,7 @@ fn line(l: &[u8]) {
         return;
     }
     let mut said = records::room();
-    match hex::bytes_in(&l[1..], &mut said) {
+    match hexes::bytes_in(&l[1..], &mut said) {
         Said::Bytes(n) => if n <= said.len() {
             record(letter, &said[0..n]);
         },

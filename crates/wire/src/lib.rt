@@ -7,7 +7,7 @@ ghost use Rattle.wire.specs.Twos.{half_of, signed_of, unsigned_of};
 pub const LONGEST: usize = 32_000;
 
 // How many there are, or the refusal's number: what calls answer that count rows or bytes.
-#[derive(Drop)]
+#[derive(Clone, Copy)]
 pub enum Counted {
     Is(usize),
     Refused(u32),
@@ -70,7 +70,7 @@ pub fn copy(dst: &mut [u8], src: &[u8])
 }
 
 // The widths of a number on the wire, in bytes.
-#[derive(Drop)]
+#[derive(Clone, Copy)]
 pub enum Width {
     One,
     Two,
@@ -111,7 +111,7 @@ pub fn signed(w: Width, n: u64) -> i64
 }
 
 // The bits of a signed number at a width, or that the width has none.
-#[derive(Drop)]
+#[derive(Clone, Copy)]
 pub enum Bits {
     Are(u64),
     Out,

@@ -1,6 +1,6 @@
 -- Each arm is the definition's case of what the frame reader answered to no byte.
 use Rattle.std.proofs.Common.{◌≡◌, sym, ◌∙◌, rules}
-use Rattle.capture.specs.Capture.{more_of, with_frames}
+use Rattle.capture.specs.Capture.{one_more, with_frames}
 use Rattle.capture.proofs.Answered.{settled_as}
 use Rattle.capture.proofs.settle.Statement.{statement}
 use Rattle.capture.proofs.settle.Tie as tie
@@ -23,8 +23,8 @@ enum-told-3 c = search rules
 enum-told-4 : tie.Need-enum-told-4
 enum-told-4 c = search rules
 
-more-of-requires : tie.Need-more-of-requires
-more-of-requires c κs = search rules
+one-more-requires : tie.Need-one-more-requires
+one-more-requires c κs = search rules
 
 with-frames-requires : tie.Need-with-frames-requires
 with-frames-requires c κs = search rules
@@ -33,22 +33,22 @@ enum-told-5 : tie.Need-enum-told-5
 enum-told-5 c = search rules
 
 returns : tie.Need-returns
-returns c = sym (settled_as _ _ _ c.before.before.before.feed.ensures c.enum_told.given.1)
+returns c = sym (settled_as _ 0 _ _ c.before.before.before.feed.ensures c.enum_told.given.1)
 
 returns-2 : tie.Need-returns-2
-returns-2 c = sym (settled_as _ _ _ c.before.before.before.feed.ensures c.enum-told2.given.1)
+returns-2 c = sym (settled_as _ 0 _ _ c.before.before.before.feed.ensures c.enum-told2.given.1)
 
 returns-3 : tie.Need-returns-3
-returns-3 c = sym (settled_as _ _ _ c.before.before.before.feed.ensures c.enum-told3.given.1)
+returns-3 c = sym (settled_as _ 0 _ _ c.before.before.before.feed.ensures c.enum-told3.given.1)
 
 returns-4 : tie.Need-returns-4
 returns-4 c =
     let l = c.before.before.before.before.before.before.before.before.args.l in
-    let w : c.with-frames.result ≡ with_frames l c.before.before.before.before.before.feed.result.reader (more_of 1 l.count) l.bytes = rw c.before.more_of.ensures at c.with-frames.ensures in
-    w ∙ sym (settled_as _ _ _ c.before.before.before.before.before.feed.ensures c.before.before.enum-told4.given.1)
+    let w : c.with-frames.result ≡ with_frames l c.before.before.before.before.before.feed.result.reader (one_more l.count) l.bytes = rw c.before.one_more.ensures at c.with-frames.ensures in
+    w ∙ sym (settled_as _ 0 _ _ c.before.before.before.before.before.feed.ensures c.before.before.enum-told4.given.1)
 
 returns-5 : tie.Need-returns-5
-returns-5 c = sym (settled_as _ _ _ c.before.before.before.feed.ensures c.enum-told5.given.1)
+returns-5 c = sym (settled_as _ 0 _ _ c.before.before.before.feed.ensures c.enum-told5.given.1)
 
 pub settle_spec : {M : Type 1} → statement M
 settle_spec =
@@ -60,7 +60,7 @@ settle_spec =
     enum-told-2
     enum-told-3
     enum-told-4
-    more-of-requires
+    one-more-requires
     with-frames-requires
     enum-told-5
     returns

@@ -25,7 +25,7 @@ same_length c = search rules
 returns : tie.Need-returns
 returns c =
     let a = c.before.before.before.before.before.before.args in
-    record { is = placed_sets a.out.now a.s.now _ a.at c.before.before.before.before.before.before.requires c.before.before.copy.ensures; behind = search rules }
+    (search rules, placed_sets a.out.now a.s.now _ a.at c.before.before.before.before.before.before.requires c.before.before.copy.ensures)
 
 pub put_spec : {M : Type 1} → statement M
 put_spec =

@@ -1,9 +1,11 @@
 -- The letter, the depth, the name, the length and the line end are stored one behind another.
+use mathlib.Core.List.{[], ◌∷◌}
 use native.Mathlib.Omega.{arith}
-use Rattle.lines.specs.Text.{item_line}
+use lib.ListN.{length}
+use Rattle.lines.specs.Text.{newline, number_field, name_field, item_line}
 use Rattle.lines.proofs.Fields.{field_short}
 use Rattle.lines.proofs.Named.{name_short}
-use Rattle.lines.proofs.Stored.{then}
+use Rattle.lines.proofs.Stored.{Stored, stored, kept, then}
 use borrow.Author.Rules.{rules}
 use Rattle.lines.proofs.put_item.Statement.{statement}
 use Rattle.lines.proofs.put_item.Tie as tie
@@ -18,12 +20,19 @@ put-number-requires : tie.Need-put-number-requires
 put-number-requires c κs = search rules
 
 put-name-requires : tie.Need-put-name-requires
-put-name-requires c κs = omega (arith, field_short c.before.before.before.before.before.before.before.before.before.before.before.args.depth)
+put-name-requires c κs =
+    let a = c.before.before.before.before.before.before.before.before.before.before.before.args in
+    let p : Stored a.out.now a.at (0x49 ∷ []) c.before.before.before.before.before.before.before.put.new.0 c.before.before.before.before.before.before.before.put.result = stored c.before.before.before.before.before.before.before.put.ensures in
+    let q : Stored c.before.before.before.before.before.before.before.put.new.0 c.before.before.before.before.before.before.before.put.result (number_field a.depth) c.before.before.before.put-number.new.0 c.before.before.before.put-number.result = stored c.before.before.before.put-number.ensures in
+    omega (arith, kept p, kept q, p.behind, q.behind, field_short a.depth, c.before.before.before.before.before.before.before.before.before.before.before.requires)
 
 put-number-requires-2 : tie.Need-put-number-requires-2
 put-number-requires-2 c κs =
     let a = c.before.before.before.before.before.before.before.before.before.before.before.before.before.before.before.args in
-    omega (arith, field_short a.depth, name_short a.code)
+    let p : Stored a.out.now a.at (0x49 ∷ []) c.before.before.before.before.before.before.before.before.before.before.before.put.new.0 c.before.before.before.before.before.before.before.before.before.before.before.put.result = stored c.before.before.before.before.before.before.before.before.before.before.before.put.ensures in
+    let q : Stored c.before.before.before.before.before.before.before.before.before.before.before.put.new.0 c.before.before.before.before.before.before.before.before.before.before.before.put.result (number_field a.depth) c.before.before.before.before.before.before.before.put-number.new.0 c.before.before.before.before.before.before.before.put-number.result = stored c.before.before.before.before.before.before.before.put-number.ensures in
+    let r : Stored c.before.before.before.before.before.before.before.put-number.new.0 c.before.before.before.before.before.before.before.put-number.result (name_field a.code) c.before.before.before.put-name.new.0 c.before.before.before.put-name.result = stored c.before.before.before.put-name.ensures in
+    omega (arith, kept p, kept q, kept r, p.behind, q.behind, r.behind, field_short a.depth, name_short a.code, c.before.before.before.before.before.before.before.before.before.before.before.before.before.before.before.requires)
 
 slice-aggregate-put-2 : tie.Need-slice-aggregate-put-2
 slice-aggregate-put-2 c = search rules
@@ -31,7 +40,11 @@ slice-aggregate-put-2 c = search rules
 put-requires-2 : tie.Need-put-requires-2
 put-requires-2 c κs =
     let a = c.before.before.before.before.before.before.before.before.before.before.before.before.before.before.before.before.before.before.before.before.args in
-    omega (arith, field_short a.depth, name_short a.code, field_short a.size)
+    let p : Stored a.out.now a.at (0x49 ∷ []) c.before.before.before.before.before.before.before.before.before.before.before.before.before.before.before.before.put.new.0 c.before.before.before.before.before.before.before.before.before.before.before.before.before.before.before.before.put.result = stored c.before.before.before.before.before.before.before.before.before.before.before.before.before.before.before.before.put.ensures in
+    let q : Stored c.before.before.before.before.before.before.before.before.before.before.before.before.before.before.before.before.put.new.0 c.before.before.before.before.before.before.before.before.before.before.before.before.before.before.before.before.put.result (number_field a.depth) c.before.before.before.before.before.before.before.before.before.before.before.before.put-number.new.0 c.before.before.before.before.before.before.before.before.before.before.before.before.put-number.result = stored c.before.before.before.before.before.before.before.before.before.before.before.before.put-number.ensures in
+    let r : Stored c.before.before.before.before.before.before.before.before.before.before.before.before.put-number.new.0 c.before.before.before.before.before.before.before.before.before.before.before.before.put-number.result (name_field a.code) c.before.before.before.before.before.before.before.before.put-name.new.0 c.before.before.before.before.before.before.before.before.put-name.result = stored c.before.before.before.before.before.before.before.before.put-name.ensures in
+    let t : Stored c.before.before.before.before.before.before.before.before.put-name.new.0 c.before.before.before.before.before.before.before.before.put-name.result (number_field a.size) c.before.before.before.before.put-number2.new.0 c.before.before.before.before.put-number2.result = stored c.before.before.before.before.put-number2.ensures in
+    omega (arith, kept p, kept q, kept r, kept t, p.behind, q.behind, r.behind, t.behind, field_short a.depth, name_short a.code, field_short a.size, c.before.before.before.before.before.before.before.before.before.before.before.before.before.before.before.before.before.before.before.before.requires)
 
 same_length : tie.Need-same-length
 same_length c = search rules
@@ -39,12 +52,14 @@ same_length c = search rules
 returns : tie.Need-returns
 unfolding item_line
 returns c =
-    let e = c.before.before in
-    let d = e.before.before.before.before.before in
-    let n = d.before.before.before.before in
-    let m = n.before.before.before.before in
-    let l = m.before.before.before.before in
-    then l.put.ensures (then m.put-number.ensures (then n.put-name.ensures (then d.put-number2.ensures e.put2.ensures)))
+    let a = c.before.before.before.before.before.before.before.before.before.before.before.before.before.before.before.before.before.before.before.before.before.before.before.args in
+    let p : Stored a.out.now a.at (0x49 ∷ []) c.before.before.before.before.before.before.before.before.before.before.before.before.before.before.before.before.before.before.before.put.new.0 c.before.before.before.before.before.before.before.before.before.before.before.before.before.before.before.before.before.before.before.put.result = stored c.before.before.before.before.before.before.before.before.before.before.before.before.before.before.before.before.before.before.before.put.ensures in
+    let q : Stored c.before.before.before.before.before.before.before.before.before.before.before.before.before.before.before.before.before.before.before.put.new.0 c.before.before.before.before.before.before.before.before.before.before.before.before.before.before.before.before.before.before.before.put.result (number_field a.depth) c.before.before.before.before.before.before.before.before.before.before.before.before.before.before.before.put-number.new.0 c.before.before.before.before.before.before.before.before.before.before.before.before.before.before.before.put-number.result = stored c.before.before.before.before.before.before.before.before.before.before.before.before.before.before.before.put-number.ensures in
+    let r : Stored c.before.before.before.before.before.before.before.before.before.before.before.before.before.before.before.put-number.new.0 c.before.before.before.before.before.before.before.before.before.before.before.before.before.before.before.put-number.result (name_field a.code) c.before.before.before.before.before.before.before.before.before.before.before.put-name.new.0 c.before.before.before.before.before.before.before.before.before.before.before.put-name.result = stored c.before.before.before.before.before.before.before.before.before.before.before.put-name.ensures in
+    let t : Stored c.before.before.before.before.before.before.before.before.before.before.before.put-name.new.0 c.before.before.before.before.before.before.before.before.before.before.before.put-name.result (number_field a.size) c.before.before.before.before.before.before.before.put-number2.new.0 c.before.before.before.before.before.before.before.put-number2.result = stored c.before.before.before.before.before.before.before.put-number2.ensures in
+    let u : Stored c.before.before.before.before.before.before.before.put-number2.new.0 c.before.before.before.before.before.before.before.put-number2.result (newline ∷ []) c.before.before.put2.new.0 c.before.before.put2.result = stored c.before.before.put2.ensures in
+    let w = then p (then q (then r (then t u))) in
+    (w.behind, w.is)
 
 pub put_item_spec : {M : Type 1} → statement M
 put_item_spec =

@@ -1,8 +1,12 @@
 -- The digits have at most twenty bytes, and stand behind the tab.
 use Prim.Native.Nat.{◌^◌, ◌<◌}
+use mathlib.Core.List.{[], ◌∷◌}
+use mathlib.Core.Path.{◌≡◌, ap, ◌∙◌}
+use lib.ListN.{length}
+use lib.Seq.{length-sets}
+use Rattle.lines.specs.Text.{tab}
 use native.Mathlib.Omega.{arith}
-use Rattle.lines.proofs.Numbered.{digits_are, digits_short}
-use Rattle.lines.proofs.Stored.{then}
+use Rattle.lines.proofs.Numbered.{digits_short, field_end, field_stored}
 use borrow.Author.Rules.{rules}
 use Rattle.lines.proofs.put_number.Statement.{statement}
 use Rattle.lines.proofs.put_number.Tie as tie
@@ -27,21 +31,28 @@ part-put-end c = search rules
 
 put-requires-2 : tie.Need-put-requires-2
 put-requires-2 c κs =
-    let b = c.before.before.before.before.before.before.before.before in
-    let d = b.decimal in
-    let small : b.before.before.before.args.n < 2 ^ 64 = search rules in
-    omega (arith, digits_short _ d.result _ small d.ensures.1.0 d.ensures.1.1)
+    let d = c.before.before.before.before.before.before.before.before.decimal in
+    let a = c.before.before.before.before.before.before.before.before.before.before.before.args in
+    let small : a.n < 2 ^ 64 = search rules in
+    let p = c.before.before.before.before.before.put in
+    let l : length p.new.0 ≡ length a.out.now = ap length p.ensures.1 ∙ length-sets a.out.now a.at (tab ∷ []) in
+    omega (arith, digits_short a.n d.result _ small d.ensures.1.0 d.ensures.1.1, l, p.ensures.0, c.before.before.before.before.before.before.before.before.before.before.before.requires)
 
 same_length : tie.Need-same-length
 same_length c = search rules
 
 returns : tie.Need-returns
 returns c =
-    let p = c.before.before.before.before.before.before.before.before in
-    let b = p.before.before.before in
-    let d = b.decimal in
-    let small : b.before.before.before.args.n < 2 ^ 64 = search rules in
-    then p.put.ensures (rw (digits_are _ d.result _ small d.ensures.1.0 d.ensures.1.1) at c.before.before.put2.ensures)
+    let d = c.before.before.before.before.before.before.before.before.before.before.before.decimal in
+    let a = c.before.before.before.before.before.before.before.before.before.before.before.before.before.before.args in
+    let p = c.before.before.before.before.before.before.before.before.put in
+    let q = c.before.before.put2 in
+    let small : a.n < 2 ^ 64 = search rules in
+    let f = d.ensures.1.0 in
+    let e = d.ensures.1.1 in (
+      field_end a.n d.result _ small f e a.out.now _ _ a.at p.result q.result p.ensures.0 p.ensures.1 q.ensures.0 q.ensures.1,
+      field_stored a.n d.result _ small f e a.out.now _ _ a.at p.result q.result p.ensures.0 p.ensures.1 q.ensures.0 q.ensures.1,
+    )
 
 pub put_number_spec : {M : Type 1} → statement M
 put_number_spec =

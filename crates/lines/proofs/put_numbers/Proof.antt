@@ -47,11 +47,11 @@ loop-again c =
     let h = c.before.before.before.before.before.loop-test.true in
     let n = get_or ns l.i 0 in
     let z : l.i + 1 ≡ suc l.i = add-one l.i in (
-      ap length p.ensures.is ∙ length-sets l.out l.a (number_field n) ∙ l.invariant.0,
+      ap length p.ensures.1 ∙ length-sets l.out l.a (number_field n) ∙ l.invariant.0,
       omega arith,
-      omega (arith, field_short n, p.ensures.behind, l.invariant.2, h),
-      rw (z, p.ensures.behind) (next_end ns l.i h l.a ∙ l.invariant.3),
-      rw (z, p.ensures.is, p.ensures.behind) (next_stored ns l.i h l.out l.a ∙ l.invariant.4),
+      omega (arith, field_short n, p.ensures.0, l.invariant.2, h),
+      rw (z, p.ensures.0) (next_end ns l.i h l.a ∙ l.invariant.3),
+      rw (z, p.ensures.1, p.ensures.0) (next_stored ns l.i h l.out l.a ∙ l.invariant.4),
     )
 
 same_length : tie.Need-same-length invariant_loop decreases_loop
@@ -60,8 +60,10 @@ same_length c = c.before.loop.invariant.0
 returns : tie.Need-returns invariant_loop decreases_loop
 returns c =
     let l = c.before.loop in
-    let e = no_fields c.before.before.before.before.args.ns.now l.i (omega (arith, l.invariant.1, c.loop-test.false)) in
-    record { is = rw e at l.invariant.4; behind = omega (arith, ap length e, l.invariant.3) }
+    let e = no_fields c.before.before.before.before.args.ns.now l.i (omega (arith, l.invariant.1, c.loop-test.false)) in (
+      omega (arith, ap length e, l.invariant.3),
+      rw e at l.invariant.4,
+    )
 
 pub put_numbers_spec : {M : Type 1} → statement M
 put_numbers_spec =

@@ -1,25 +1,46 @@
 -- The array has room for any line.
 use borrow.Author.Rules.{rules}
-use Prim.Native.Nat.{ℕ}
-use mathlib.Core.Path.{◌≡◌}
-use native.Mathlib.Omega.{arith}
-use lib.ListN.{length, replicate, length-replicate}
-use Rattle.lines.proofs.Short.{line_short}
-use Rattle.lines.proofs.Stored.{kept, printed_stored}
+use Rattle.listing.proofs.Placed.{within}
 use Rattle.lister.proofs.list_end.Statement.{statement}
 use Rattle.lister.proofs.list_end.Tie as tie
 
+last-line-requires : tie.Need-last-line-requires
+last-line-requires c κs = search rules
+
+print-requires : tie.Need-print-requires
+print-requires c κs = search rules
+
+sub-write-all : tie.Need-overflow-sub-write-all
+sub-write-all c = search rules
+
+part-write-all-start : tie.Need-slice-bounds-write-all-start
+part-write-all-start c = search rules
+
 part-write-all-end : tie.Need-slice-bounds-write-all-end
-part-write-all-end c =
-    let p = c.before.before in
-    let x = p.before.before.last_Line.result in
-    let out = replicate 160 0 in
-    let size : length out ≡ 160 = length-replicate {A = ℕ} 160 0 in
-    let put = printed_stored x out _ 0 _ (omega (arith, size)) p.print.ensures in
-    omega (arith, put.behind, kept put, size, line_short x)
+part-write-all-end c = within c.before.before.before.last_Line.result _ _ c.before.print.ensures.0 c.before.print.ensures.1
+
+write-all-requires : tie.Need-write-all-requires
+write-all-requires c κs = search rules
+
+cannot-write-requires : tie.Need-cannot-write-requires
+cannot-write-requires c κs = search rules
+
+returns : tie.Need-returns
+returns c = search rules
+
+returns-2 : tie.Need-returns-2
+returns-2 c = search rules
 
 pub list_end_spec : {M : Type 1} → statement M
 list_end_spec =
     tie.close
-    (tie.spec (λ c κs. search rules) (λ c. search rules) (λ c κs. search rules) (λ c. search rules) (λ c. search rules) part-write-all-end
-    (λ c κs. search rules) (λ c κs. search rules) (λ c. search rules) (λ c. search rules))
+    (tie.spec
+    last-line-requires
+    print-requires
+    sub-write-all
+    part-write-all-start
+    part-write-all-end
+    write-all-requires
+    cannot-write-requires
+    returns
+    returns-2)

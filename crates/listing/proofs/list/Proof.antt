@@ -1,100 +1,98 @@
--- What has come of the piece goes on with each turn, until nothing is left of the piece or of the room.
+-- The rest of the piece, listed behind the place, stays the whole piece listed into the output.
 use borrow.Author.Rules.{rules}
-use Prim.Native.Nat.{ℕ, ◌+◌, ◌-◌, ◌^◌, ◌<◌}
-use mathlib.Core.Path.{◌≡◌, refl, ap, subst, ◌∙◌}
-use mathlib.Core.List.{List}
+use Prim.Native.Nat.{◌-◌, ◌≤◌}
+use mathlib.Core.Path.{◌≡◌, refl, ◌∙◌}
 use native.Mathlib.Omega.{arith}
+use lib.ListN.{length, drop}
 use borrow.Author.Tests.{leb-true, leb-false}
-use lib.ListN.{length, take, drop, length-drop}
-use Rattle.lines.proofs.Stored.{kept}
-use Rattle.listing.specs.Asked.{Came, Turned}
-use Rattle.listing.proofs.Parts.{rest_is}
-use Rattle.listing.proofs.Turns.{came_first, came_then, came_last, run_full, run_end}
+use Rattle.lines.proofs.Stored.{Stored, stored, kept}
+use Rattle.listing.specs.Listing.{lines_of}
+use Rattle.listing.specs.Piece.{run}
+use Rattle.listing.proofs.Short.{told_short}
+use Rattle.listing.proofs.Runs.{Joined, joined_first, joined_next, joined_last, run_full, run_end}
 use Rattle.listing.proofs.list.Statement.{statement}
 use Rattle.listing.proofs.list.Tie as tie
 
 abbrev invariant_loop : tie.invariant-loop
-invariant_loop piece out₀ state₀ i₀ at₀ out state i at = Came state₀ piece out₀ 0 state i at out
+invariant_loop piece out₀ state₀ i₀ at₀ out state i at =
+    (length out ≡ length out₀) × (i ≤ length piece) × (at ≤ length out₀)
+    × Joined (run state₀ (length out₀) piece) out₀ (run state (length out₀ - at) (drop i piece)) out i at
 
 abbrev decreases_loop : tie.decreases-loop
 decreases_loop piece out₀ state₀ i₀ at₀ out state i at = length piece - i
 
--- from behind a turn: where it began, and the call
-abbrev top : tie.After-turn invariant_loop decreases_loop → tie.At-loop invariant_loop decreases_loop
-top c = c.before.before.before.before.before
-
-abbrev start : tie.After-turn invariant_loop decreases_loop → tie.Start invariant_loop decreases_loop
-start c = (top c).before.before.before
-
--- the turn, of what is left of the piece
-turned : (c : tie.After-turn invariant_loop decreases_loop)
-    → let l = (top c).loop in
-    let t = c.turn.result in
-    Turned l.state (drop l.i (start c).args.piece.now) l.out l.at t.lister t.consumed t.at c.turn.new.1.1.0
-turned c =
-    let l = (top c).loop in
-    let t = c.turn.result in
-    subst (λ (x : List ℕ). Turned l.state x l.out l.at t.lister t.consumed t.at c.turn.new.1.1.0)
-    (rest_is (start c).args.piece.now l.i) c.turn.ensures
-
 loop-holds : tie.Need-loop-init invariant_loop decreases_loop
-loop-holds c = came_first _ _ _ 0 (omega arith)
+loop-holds c = (refl, omega arith, omega arith, joined_first _ _ _)
 
 sub-if1 : tie.Need-overflow-sub-if1 invariant_loop decreases_loop
-sub-if1 c =
-    let g = c.before.loop.invariant in
-    omega (arith, g.fits, kept g.stored)
+sub-if1 c = omega (arith, c.before.loop.invariant.0, c.before.loop.invariant.2)
 
-turn-requires : tie.Need-turn-requires invariant_loop decreases_loop
-turn-requires c κs =
-    let l = c.before.before.before.before.loop in
-    let room = leb-true 320 (length l.out - l.at) c.before.before.if1.true in
-    let p = c.before.before.before.before.before.before.before.args.piece.now in
-    (rw (rest_is p l.i) (omega (arith, length-drop l.i p, c.before.before.before.loop-test.true)), omega (arith, room))
+shared-slice-read-byte-came : tie.Need-shared-slice-read-byte-came invariant_loop decreases_loop
+shared-slice-read-byte-came c = omega (arith, c.before.before.loop-test.true)
+
+byte-came-requires : tie.Need-byte-came-requires invariant_loop decreases_loop
+byte-came-requires c κs = search rules
+
+put-told-requires : tie.Need-put-told-requires invariant_loop decreases_loop
+put-told-requires c κs =
+    let l = c.before.before.before.before.before.before.loop in
+    omega (arith, l.invariant.0, l.invariant.2, told_short c.before.before.byte-came.result, leb-true 320 (length l.out - l.at) c.before.before.before.before.if1.true)
 
 add-i : tie.Need-overflow-add-i invariant_loop decreases_loop
-add-i c =
-    let t = c.before.before in
-    let p = (start t).args.piece.now in
-    let l = (top t).loop in
-    let fits : l.i + t.turn.result.consumed < 2 ^ 64 = omega (arith, (turned t).came.within, length-drop l.i p, l.inv.within, (start t).well-formed.1.0) in
-    record { fits = fits }
+add-i c = search rules
 
 loop-less : tie.Need-loop-smaller invariant_loop decreases_loop
-loop-less c =
-    let t = c.before.before.before in
-    omega (arith, (turned t).some, (turned t).came.within, length-drop (top t).loop.i (start t).args.piece.now)
+loop-less c = omega (arith, c.before.before.before.before.before.before.before.before.loop-test.true)
 
 loop-again : tie.Need-loop-preserved invariant_loop decreases_loop
 loop-again c =
-    let t = c.before.before.before in
-    let l = (top t).loop in
-    let a = (start t).args in
-    came_then a.l a.piece.now a.out.now 0 l.state l.i l.at l.out _ _ _ _ l.inv (turned t)
+    let a = c.before.before.before.before.before.before.before.before.before.before.before.before.args in
+    let l = c.before.before.before.before.before.before.before.before.before.loop in
+    let h = c.before.before.before.before.before.before.before.before.loop-test.true in
+    let b = c.before.before.before.before.before.byte-came in
+    let p = c.before.before.put-told in
+    let w : Stored l.out l.at (lines_of b.result) p.new.0 p.result = stored p.ensures in
+    let k : 320 ≤ length a.out.now - l.at = omega (arith, l.invariant.0, leb-true 320 (length l.out - l.at) c.before.before.before.before.before.before.before.if1.true) in (
+      kept w ∙ l.invariant.0,
+      omega (arith, h),
+      omega (arith, w.behind, told_short b.result, k),
+      joined_next _ a.out.now a.piece.now l.out l.state l.i l.at h k b.result b.ensures _ _ l.invariant.3 w,
+    )
 
 same_length : tie.Need-same-length invariant_loop decreases_loop
-same_length c = kept c.before.before.loop.invariant.stored
+same_length c = c.before.before.loop.invariant.0
 
 returns : tie.Need-returns invariant_loop decreases_loop
 returns c =
     let l = c.before.before.loop in
     let a = c.before.before.before.before.before.args in
-    let full = leb-false 320 (length l.out - l.at) c.if1.false in
-    came_last a.l a.piece.now a.out.now l.state l.i l.at l.out l.invariant
-    (run_full l.state (length a.out.now - l.at) (drop l.i a.piece.now) (omega (arith, full, kept l.invariant.stored)))
+    joined_last _ _ _ _ _ _ _ l.invariant.3
+    (run_full l.state (length a.out.now - l.at) a.piece.now l.i c.before.loop-test.true (omega (arith, l.invariant.0, leb-false 320 (length l.out - l.at) c.if1.false)))
 
 same-length-2 : tie.Need-same-length-2 invariant_loop decreases_loop
-same-length-2 c = kept c.before.loop.invariant.stored
+same-length-2 c = c.before.loop.invariant.0
 
 returns-2 : tie.Need-returns-2 invariant_loop decreases_loop
 returns-2 c =
     let l = c.before.loop in
     let a = c.before.before.before.before.args in
-    came_last a.l a.piece.now a.out.now l.state l.i l.at l.out l.invariant
-    (run_end l.state (length a.out.now - l.at) a.piece.now l.i (omega (arith, c.loop-test.false, l.invariant.within)))
+    joined_last _ _ _ _ _ _ _ l.invariant.3 (run_end l.state (length a.out.now - l.at) a.piece.now l.i (omega (arith, l.invariant.1, c.loop-test.false)))
 
 pub list_spec : {M : Type 1} → statement M
 list_spec =
     tie.close
-    (tie.spec invariant_loop decreases_loop loop-holds sub-if1 (λ c. search rules) (λ c. search rules) (λ c. search rules) turn-requires add-i loop-less loop-again
-    same_length returns same-length-2 returns-2)
+    (tie.spec
+    invariant_loop
+    decreases_loop
+    loop-holds
+    sub-if1
+    shared-slice-read-byte-came
+    byte-came-requires
+    put-told-requires
+    add-i
+    loop-less
+    loop-again
+    same_length
+    returns
+    same-length-2
+    returns-2)

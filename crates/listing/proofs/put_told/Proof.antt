@@ -1,22 +1,23 @@
 -- The second line stands behind the first.
-use borrow.Author.Rules.{rules}
 use native.Mathlib.Omega.{arith}
+use lib.ListN.{length-append}
 use Rattle.lines.specs.Text.{line_text}
-use Rattle.lines.specs.Stored.{Stored}
-use Rattle.lines.proofs.Short.{line_short}
-use Rattle.lines.proofs.Stored.{kept, then, printed_stored}
+use Rattle.lines.proofs.Stored.{Stored, stored, kept, then}
+use borrow.Author.Rules.{rules}
 use Rattle.listing.proofs.put_told.Statement.{statement}
 use Rattle.listing.proofs.put_told.Tie as tie
 
+put-line-requires : tie.Need-put-line-requires
+put-line-requires c κs = omega (arith, length-append (line_text c.before.before.args.t.first) (line_text c.before.before.args.t.second), c.before.before.requires)
+
+put-line-requires-2 : tie.Need-put-line-requires-2
+put-line-requires-2 c κs = (let p : Stored c.before.before.before.before.before.before.args.out.now c.before.before.before.before.before.before.args.at (line_text c.before.before.before.before.before.before.args.t.first) c.before.before.before.put-line.new.0 c.before.before.before.put-line.result = stored c.before.before.before.put-line.ensures in omega (arith, kept p, p.behind, length-append (line_text c.before.before.before.before.before.before.args.t.first) (line_text c.before.before.before.before.before.before.args.t.second), c.before.before.before.before.before.before.requires))
+
+same_length : tie.Need-same-length
+same_length c = search rules
+
 returns : tie.Need-returns
-returns c =
-    let g = c.before.before in
-    let f = g.before.before.before.before in
-    let b = f.before.before.before in
-    let a = b.args in
-    let x = a.t.first in
-    let p : Stored a.out.now a.at (line_text x) f.print.new.0 f.print.result = printed_stored x _ _ _ _ (omega (arith, b.requires)) f.print.ensures in
-    then p (printed_stored a.t.second _ _ _ _ (omega (arith, b.requires, p.behind, kept p, line_short x)) g.print2.ensures)
+returns c = (let p : Stored c.before.before.before.before.before.before.before.before.before.args.out.now c.before.before.before.before.before.before.before.before.before.args.at (line_text c.before.before.before.before.before.before.before.before.before.args.t.first) c.before.before.before.before.before.before.put-line.new.0 c.before.before.before.before.before.before.put-line.result = stored c.before.before.before.before.before.before.put-line.ensures in let q : Stored c.before.before.before.before.before.before.put-line.new.0 c.before.before.before.before.before.before.put-line.result (line_text c.before.before.before.before.before.before.before.before.before.args.t.second) c.before.before.put-line2.new.0 c.before.before.put-line2.result = stored c.before.before.put-line2.ensures in let w = then p q in (w.behind, w.is))
 
 pub put_told_spec : {M : Type 1} → statement M
-put_told_spec = tie.close (tie.spec (λ c κs. search rules) (λ c κs. search rules) (λ c. search rules) returns)
+put_told_spec = tie.close (tie.spec put-line-requires put-line-requires-2 same_length returns)

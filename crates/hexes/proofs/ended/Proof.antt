@@ -1,0 +1,14 @@
+-- The test is the definition's.
+use native.Mathlib.Omega.{arith}
+use borrow.Author.Tests.{lt-ltb, le-ltb}
+use Rattle.hexes.proofs.ended.Statement.{statement}
+use Rattle.hexes.proofs.ended.Tie as tie
+
+returns : tie.Need-returns
+returns c = (rw (lt-ltb _ _ c.if1.true), omega arith)
+
+returns-2 : tie.Need-returns-2
+returns-2 c = (rw (le-ltb _ _ c.if1.false), omega arith)
+
+pub ended_spec : {M : Type 1} → statement M
+ended_spec = tie.close (tie.spec returns returns-2)

@@ -1,0 +1,23 @@
+-- The test is the definition's.
+use borrow.Author.Rules.{rules}
+use borrow.Author.Tests.{lt-ltb, le-ltb}
+use Rattle.hexes.specs.Hex.{glyph_of}
+use Rattle.hexes.proofs.glyph.Statement.{statement}
+use Rattle.hexes.proofs.glyph.Tie as tie
+
+add-result : tie.Need-overflow-add-result
+add-result c = search rules
+
+add-result-2 : tie.Need-overflow-add-result-2
+add-result-2 c = search rules
+
+returns : tie.Need-returns
+unfolding glyph_of
+returns c = rw (lt-ltb _ _ c.if1.true)
+
+returns-2 : tie.Need-returns-2
+unfolding glyph_of
+returns-2 c = rw (le-ltb _ _ c.if1.false)
+
+pub glyph_spec : {M : Type 1} → statement M
+glyph_spec = tie.close (tie.spec add-result add-result-2 returns returns-2)

@@ -1,0 +1,15 @@
+-- The invariant: the levels passed await nothing, so the innermost level that awaits something is the same from here.
+use Prim.Native.Nat.{ℕ, suc, ◌-◌, ◌≤◌}
+use mathlib.Core.Path.{◌≡◌, refl, sym, ap, ◌∙◌}
+use native.Mathlib.Omega.{arith}
+use borrow.Author.Tests.{le-leb, lt-leb, eqb-true, eqb-false}
+use Rattle.levels.specs.declared.Levels.{Levels}
+use Rattle.levels.specs.Levels.{closed_of, innermost}
+use Rattle.levels.proofs.Laws.{innermost_none, innermost_some}
+use Rattle.levels.proofs.closed.Given as goal
+
+abbrev pub invariant-loop-d : goal.invariant-loop-d
+invariant-loop-d l = (l.d ≤ 16) × (innermost l.awaited l.initial.d ≡ innermost l.awaited l.d)
+
+abbrev pub decreases-loop-d : goal.decreases-loop-d
+decreases-loop-d l = l.d

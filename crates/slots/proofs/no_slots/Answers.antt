@@ -1,0 +1,6 @@
+-- The slot that is repeated is the free one.
+use borrow.Author.Rules.{rules}
+use Rattle.slots.proofs.no_slots.Goals as goal
+
+pub returns : goal.returns
+returns c = rw c.free_slot-s.ensures
