@@ -20,31 +20,15 @@ counted k t h = take_all 8 (take k t) (simp length-take (omega (arith, h)))
 behind : (t : List ℕ) → length t ≡ 10 → take 8 (take 4 (drop 6 t)) ≡ drop 6 t
 behind t e = counted 4 (drop 6 t) (omega arith) ∙ take_all 4 (drop 6 t) (simp length-drop (omega arith))
 
--- TODO no goal for slice-bounds-number-start
--- part-number-start : tie.Need-slice-bounds-number-start
--- part-number-start c = search rules
-
--- TODO no goal for slice-bounds-number-end
--- part-number-end : tie.Need-slice-bounds-number-end
--- part-number-end c = search rules
-
 pub overflow_cast-result : goal.overflow_cast-result
-overflow_cast-result c = omega (arith, small _ _ 2 c.number.ensures.1 c.number-arg-1.given.2)
-
--- TODO no goal for slice-bounds-number-start-2
--- part-number-start-2 : tie.Need-slice-bounds-number-start-2
--- part-number-start-2 c = search rules
-
--- TODO no goal for slice-bounds-number-end-2
--- part-number-end-2 : tie.Need-slice-bounds-number-end-2
--- part-number-end-2 c = search rules
+overflow_cast-result c = omega (arith, small _ _ 2 c.number.ensures.1 c.number-arg-1.given.1)
 
 pub overflow_cast-result-2 : goal.overflow_cast-result-2
-overflow_cast-result-2 c = omega (arith, small _ _ 4 c.number-2.ensures.1 c.number-arg-2-1.given.2)
+overflow_cast-result-2 c = omega (arith, small _ _ 4 c.number-2.ensures.1 c.number-arg-2-1.given.1)
 
 pub returns : goal.returns
 unfolding header_of
 returns c =
-    let t = c.before.before.before.before.before.before.args.t1 in
+    let t = c.args.bytes in
     let e : length t ≡ 10 = search rules in
     rw (c.number.ensures.0 ∙ ap number_of (counted 2 t (omega arith)), c.number-2.ensures.0 ∙ ap number_of (behind t e))

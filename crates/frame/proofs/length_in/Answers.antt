@@ -20,14 +20,6 @@ found s t n e f h =
     let k : length t ≤ 4 = rw (e, length-take) (omega arith) in
     (f ∙ ap number_of (take_all 8 t (omega arith) ∙ e), small t n k h)
 
--- TODO no goal for slice-bounds-number-start
--- part-number-start : tie.Need-slice-bounds-number-start
--- part-number-start c = search rules
-
--- TODO no goal for slice-bounds-number-end
--- part-number-end : tie.Need-slice-bounds-number-end
--- part-number-end c = search rules
-
 pub returns-then-s-lt4 : goal.returns-then-s-lt4
 returns-then-s-lt4 c =
     let s = c.args.s.now in

@@ -14,18 +14,14 @@ use Rattle.frame.proofs.Laws.{bytes_length}
 use Rattle.frame.proofs.Runs.{three_runs}
 use Rattle.frame.proofs.put_header.Goals as goal
 
--- the call, from where the session ID is stored
-abbrev start : goal.After-slice_known-2-1 → goal.Start
-start c = c
-
 -- what was stored so far, and that the output is still ten bytes
-front : (c : goal.After-slice_known-2-1) → c.put.new.0 ≡ bytes_of 2 (start c).args.h.session
-front c =
-    let e : length (take 2 (start c).args.out.now) ≡ 2 = simp length-take (omega (arith, (start c).requires)) in
-    c.put.ensures ∙ ap (λ (k : ℕ). bytes_of k (start c).args.h.session) e
+front : (l v : List ℕ) (n : ℕ) → length l ≡ 10 → v ≡ bytes_of (length (take 2 l)) n → v ≡ bytes_of 2 n
+front l v n h e =
+    let two : length (take 2 l) ≡ 2 = simp length-take (omega arith) in
+    e ∙ ap (λ (k : ℕ). bytes_of k n) two
 
-ten : (c : goal.After-slice_known-2-1) → length (c.put.new.0 ++ drop 2 (start c).args.out.now) ≡ 10
-ten c = ap (λ (x : List ℕ). length (x ++ drop 2 (start c).args.out.now)) (front c) ∙ simp (length-append, length_bytes, length-drop) (omega (arith, (start c).requires))
+ten : (l v : List ℕ) (n : ℕ) → length l ≡ 10 → v ≡ bytes_of (length (take 2 l)) n → length (v ++ drop 2 l) ≡ 10
+ten l v n h e = ap (λ (x : List ℕ). length (x ++ drop 2 l)) (front l v n h e) ∙ simp (length-append, length_bytes, length-drop) (omega arith)
 
 filled : (l x y z : List ℕ) → length l ≡ 10 → length x ≡ 2 → length y ≡ 4 → length z ≡ 4
     → take 6 (sets (x ++ drop 2 l) 2 y) ++ (z ++ drop 4 (drop 6 (sets (x ++ drop 2 l) 2 y))) ≡ x ++ (y ++ z)
@@ -41,45 +37,28 @@ filled l x y z n a b d =
     ∙ ap (λ (o : List ℕ). (x ++ (y ++ z)) ++ o) (drop_of_length-le l {i = 10} (omega (arith, n)))
     ∙ append-nil (x ++ (y ++ z))
 
--- TODO no goal for slice-bounds-put-start
--- part-put-start : tie.Need-slice-bounds-put-start
--- part-put-start c = search rules
-
--- TODO no goal for slice-bounds-put-end
--- part-put-end : tie.Need-slice-bounds-put-end
--- part-put-end c = search rules
-
 pub bounds-out-3 : goal.bounds-out-3
-bounds-out-3 c = simp length-set (omega (arith, ten c))
+bounds-out-3 c = simp length-set (omega (arith, ten c.args.out.now c.put.new.s c.args.h.session c.requires c.put.ensures))
 
 pub bounds-out-4 : goal.bounds-out-4
-bounds-out-4 c = simp length-set (omega (arith, ten c))
+bounds-out-4 c = simp length-set (omega (arith, ten c.args.out.now c.put.new.s c.args.h.session c.requires c.put.ensures))
 
 pub bounds-out-5 : goal.bounds-out-5
-bounds-out-5 c = simp length-set (omega (arith, ten c))
-
--- TODO no goal for slice-bounds-put-start-2
--- part-put-start-2 : tie.Need-slice-bounds-put-start-2
--- part-put-start-2 c = search rules
-
--- TODO no goal for slice-bounds-put-end-2
--- part-put-end-2 : tie.Need-slice-bounds-put-end-2
--- part-put-end-2 c = simp length-set (omega (arith, ten c))
+bounds-out-5 c = simp length-set (omega (arith, ten c.args.out.now c.put.new.s c.args.h.session c.requires c.put.ensures))
 
 pub returns : goal.returns
 unfolding header_bytes
 returns c =
-    let d = c in
-    let a = (start d).args in
-    let x = d.put.new.0 in
+    let a = c.args in
+    let x = c.put.new.s in
+    let first = front a.out.now x a.h.session c.requires c.put.ensures in
     let y : List ℕ = a.h.byte2 ∷ a.h.byte3 ∷ a.h.ptype ∷ a.h.stype ∷ [] in
     let z = c.put-2 in
-    let e : length (take 4 (drop 6 (sets (x ++ drop 2 a.out.now) 2 y))) ≡ 4 = simp (length-take, length-drop, length-set) (omega (arith, ten d)) in
-    let back : z.new.0 ≡ bytes_of 4 a.h.system = z.ensures ∙ ap (λ (k : ℕ). bytes_of k a.h.system) e in
-    filled a.out.now x y z.new.0 (start d).requires (ap length (front d) ∙ length_bytes 2 _) refl (ap length back ∙ length_bytes 4 _)
-    ∙ ap₂ (λ (u v : List ℕ). u ++ (y ++ v)) (front d) back
+    let e : length (take 4 (drop 6 (sets (x ++ drop 2 a.out.now) 2 y))) ≡ 4 = simp (length-take, length-drop, length-set) (omega (arith, ten a.out.now x a.h.session c.requires c.put.ensures)) in
+    let back : z.new.s ≡ bytes_of 4 a.h.system = z.ensures ∙ ap (λ (k : ℕ). bytes_of k a.h.system) e in
+    filled a.out.now x y z.new.s c.requires (ap length first ∙ length_bytes 2 _) refl (ap length back ∙ length_bytes 4 _)
+    ∙ ap₂ (λ (u v : List ℕ). u ++ (y ++ v)) first back
 
 pub shape_of-out : goal.shape_of-out
 shape_of-out c =
-    let d = c in
-    ap length (returns c) ∙ bytes_length (start d).args.h ∙ sym (start d).requires
+    ap length (returns c) ∙ bytes_length c.args.h ∙ sym c.requires

@@ -75,30 +75,6 @@ returns-then-out-size c =
     let z = sym k.kind_number.ensures ∙ c.if-kind_number-ne0.false in
     (rw (le-leb _ _ k.if-text-gt-LONGEST.false, eq-eqb _ _ z, lt-leb (14 + length a.text.now) (length a.out.now) (omega (arith, c.if-out-size.true))), refl)
 
--- TODO no goal for slice-bounds-put-start
--- part-put-start : tie.Need-slice-bounds-put-start
--- part-put-start c = search rules
-
--- TODO no goal for slice-bounds-put-end
--- part-put-end : tie.Need-slice-bounds-put-end
--- part-put-end c = search rules
-
--- TODO no goal for slice-bounds-put-header-start
--- part-put-header-start : tie.Need-slice-bounds-put-header-start
--- part-put-header-start c = search rules
-
--- TODO no goal for slice-bounds-put-header-end
--- part-put-header-end : tie.Need-slice-bounds-put-header-end
--- part-put-header-end c = search rules
-
--- TODO no goal for slice-bounds-copy-start
--- part-copy-start : tie.Need-slice-bounds-copy-start
--- part-copy-start c = search rules
-
--- TODO no goal for slice-bounds-copy-end
--- part-copy-end : tie.Need-slice-bounds-copy-end
--- part-copy-end c = search rules
-
 pub returns : goal.returns
 unfolding written_of
 returns c =
