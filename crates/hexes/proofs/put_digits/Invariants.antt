@@ -1,0 +1,18 @@
+-- What was stored, with the digits still to come stored behind it, stays what all digits stored give.
+use borrow.Author.Rules.{rules}
+use Prim.Native.Nat.{ℕ, suc, ◌+◌, ◌*◌, ◌-◌, ◌/◌, ◌%◌, ◌<◌, ◌≤◌}
+use mathlib.Core.Path.{◌≡◌, refl, ◌∙◌}
+use mathlib.Core.List.{List, []}
+use native.Mathlib.Numerals.{add-one}
+use native.Mathlib.Omega.{arith}
+use lib.ListN.{length, drop, get_or, set, length-set, drop_of_length-le}
+use lib.Seq.{sets, drop-cons}
+use Rattle.hexes.specs.Hex.{glyph_of, hex_of}
+use Rattle.hexes.proofs.put_digits.Given as goal
+
+abbrev pub invariant-loop-i : goal.invariant-loop-i
+invariant-loop-i l =
+    (length l.out ≡ length l.initial.out) × (l.i ≤ length l.s) × (sets l.out (2 * l.i) (hex_of (drop l.i l.s)) ≡ sets l.initial.out 0 (hex_of l.s))
+
+abbrev pub decreases-loop-i : goal.decreases-loop-i
+decreases-loop-i l = length l.s - l.i

@@ -1,0 +1,14 @@
+-- The part's number is the field's, and fits.
+use borrow.Author.Rules.{rules}
+use native.Mathlib.Omega.{arith}
+use Rattle.records.proofs.Fields.{field_is, field_lt}
+use Rattle.records.proofs.half_at.Goals as goal
+
+pub overflow_cast-result : goal.overflow_cast-result
+overflow_cast-result c = omega (arith, field_lt 2 c.number.result c.part.result.now c.part.ensures.1 c.number.ensures.1)
+
+pub returns : goal.returns
+returns c =
+    let a = c.args in
+    let p = c.part in
+    field_is 2 a.at c.number.result p.result.now a.s.now (omega arith) p.ensures.0 p.ensures.1 c.number.ensures.0

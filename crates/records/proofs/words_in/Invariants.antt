@@ -1,0 +1,20 @@
+-- What was stored, with the numbers still to come stored behind it, stays what all numbers stored give.
+use borrow.Author.Rules.{rules}
+use Prim.Native.Nat.{ℕ, ◌+◌, ◌-◌, ◌≤◌}
+use mathlib.Core.Path.{◌≡◌, refl, sym, ◌∙◌}
+use mathlib.Core.List.{List}
+use native.Mathlib.Numerals.{add-one}
+use native.Mathlib.Omega.{arith}
+use borrow.Author.Tests.{leb-true, leb-false}
+use lib.ListN.{length, drop, set, length-set}
+use lib.Seq.{sets}
+use Rattle.records.specs.Fields.{field_of, words_in}
+use Rattle.records.proofs.Words.{words_more, words_end, stored_behind}
+use Rattle.records.proofs.words_in.Given as goal
+
+abbrev pub invariant-loop-i : goal.invariant-loop-i
+invariant-loop-i l =
+    (length l.out ≡ length l.initial.out) × (l.at ≤ length l.s) × (sets l.out l.i (words_in (drop l.at l.s)) ≡ sets l.initial.out 0 (words_in l.s))
+
+abbrev pub decreases-loop-i : goal.decreases-loop-i
+decreases-loop-i l = length l.s - l.at
