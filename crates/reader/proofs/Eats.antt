@@ -1,4 +1,4 @@
--- How a piece is eaten: a reader that goes on is ready for a byte, and the byte keeps it on the list.
+-- How a piece is eaten: a reader that goes on is ready for a byte, the byte keeps it on the list, and a turn of the loop is a step of the definition.
 use Prim.Native.Nat.{ℕ, zero, suc, ◌+◌, ◌-◌, ◌≤◌, ◌<◌}
 use mathlib.Core.Path.{◌≡◌, refl, sym, ap, subst, ◌∙◌}
 use mathlib.Core.Bool.{true}
@@ -139,6 +139,37 @@ eat_step s k i p h = rw (add-one i, drop-cons p i 0 h)
 pub eat_end : (s : State) (k i : ℕ) (p : List ℕ) → length p ≤ i → eat s k (drop i p) ≡ fed More k (reader_of s)
 unfolding eat
 eat_end s k i p h = rw (drop_of_length-le p h)
+
+-- a reader that goes on is the one that holds its state
+pub on_holds : (r : Reader) → On r → reader_of (state_of r) ≡ r
+on_holds r o = ap (λ (l : Levels). reader_in r.form r.size r.read l r.phase) (sym (held r o).clean.is)
+
+module _ (s : State) (k : ℕ) (next : Fed) (a : Answer) where
+  pub after_more : a ≡ More → after a s k next ≡ next
+  after_more e = rw e
+
+  pub after_complete : a ≡ Complete → after a s k next ≡ fed Complete k (reader_of s)
+  after_complete e = rw e
+
+  pub after_refusal : (x : ℕ) → a ≡ Refusal x → after a s k next ≡ fed (Refusal x) k (reader_of s)
+  after_refusal x e = rw e
+
+-- a turn of the loop: after the byte at i the reader is r', and a its answer
+pub record Turned (p : List ℕ) (s₀ : State) (i : ℕ) (r' : Reader) (a : Answer) : Type 0 where
+  pub on : a ≡ More → On r'
+  pub eats : eat s₀ 0 p ≡ after a (state_of r') (i + 1) (eat (state_of r') (i + 1) (drop (i + 1) p))
+  pub holds : reader_of (state_of r') ≡ r'
+
+pub turned : (p : List ℕ) (s₀ : State) (r : Reader) (i : ℕ) (r' : Reader) (a : Answer) → i < length p → get_or p i 0 ≤ 255 → On r
+    → eat s₀ 0 p ≡ eat (state_of r) i (drop i p) → r' ≡ reader_of (step (state_of r) (get_or p i 0)) → a ≡ status (state_of r') → Turned p s₀ i r' a
+turned p s₀ r i r' a h byte o e stepped answered =
+    let k = step_kept r (get_or p i 0) byte o in
+    let is : state_of r' ≡ step (state_of r) (get_or p i 0) = ap state_of stepped ∙ k.state_is in
+    record {
+      on = λ m. record { full = rw stepped k.full; allowed = rw stepped k.allowed; more = sym answered ∙ m };
+      eats = e ∙ eat_step (state_of r) i i p h ∙ rw (answered, is);
+      holds = ap reader_of is ∙ sym stepped;
+    }
 
 -- a reader that goes on is the one that holds its state
 pub on_holds : (r : Reader) → On r → reader_of (state_of r) ≡ r

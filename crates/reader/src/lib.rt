@@ -506,15 +506,14 @@ fn turn(r: Reader, piece: &[u8], from: usize) -> Taken
 }
 
 fn eat_all(r: Reader, piece: &[u8]) -> Fed
-    requires { On r }
+    requires { (allows r ≡ true) × (status (state_of r) ≡ Answer.More) }
     ensures { result ≡ eat (state_of r) 0 piece.now }
 {
     let mut state = r;
     let mut i: usize = 0;
     while i < piece.len() {
-        let t = turn(state, piece, i);
-        state = t.reader;
-        i += t.used;
+        state = step_byte(state, piece[i]);
+        i += 1;
         let answer = status_in(state);
         match answer {
             Answer::More => {}

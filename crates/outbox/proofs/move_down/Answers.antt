@@ -67,8 +67,8 @@ loop-i-preserved c =
     let high = moved_high s a.size a.used p.0 p.1 l.i in
     elim c.if-size-used.branch [
       then-size-used w ↦
-        stored _ w.s-is (ap (λ (z : List ℕ). get_or z (l.i + a.size) 0) l.invariant.2 ∙ behind to s l.i (l.i + a.size) (omega arith) (omega arith) ∙ sym (low w.if-size-used.true))
-    | else-size-used w ↦ stored 0 w.s-is (sym (high w.if-size-used.false (omega arith)))
+        stored _ w.s-is (ap (λ (z : List ℕ). get_or z (l.i + a.size) 0) l.invariant.2 ∙ behind to s l.i (l.i + a.size) (omega arith) (omega arith) ∙ sym (low (omega arith)))
+    | else-size-used w ↦ stored 0 w.s-is (sym (high (omega arith) (omega arith)))
     ]
 
 pub shape_of-s : goal.shape_of-s

@@ -1,0 +1,19 @@
+-- The fields still to put, stored behind the place, stay the fields of all numbers stored behind the first place.
+use borrow.Author.Rules.{rules}
+use Prim.Native.Nat.{suc, ◌+◌, ◌-◌, ◌*◌, ◌≤◌}
+use mathlib.Core.Path.{◌≡◌, refl, ap, ◌∙◌}
+use native.Mathlib.Numerals.{add-one}
+use native.Mathlib.Omega.{arith}
+use lib.ListN.{length, drop, get_or}
+use lib.Seq.{sets, length-sets}
+use Rattle.lines.specs.Text.{number_field, fields}
+use Rattle.lines.proofs.Fields.{field_short, next_end, next_stored, no_fields}
+use Rattle.lines.proofs.put_numbers.Given as goal
+
+abbrev pub invariant-loop-i : goal.invariant-loop-i
+invariant-loop-i l =
+    (length l.out ≡ length l.initial.out) × (l.i ≤ length l.ns) × (l.a + (length l.ns - l.i) * 21 ≤ length l.initial.out)
+    × (l.a + length (fields (drop l.i l.ns)) ≡ l.at + length (fields l.ns)) × (sets l.out l.a (fields (drop l.i l.ns)) ≡ sets l.initial.out l.at (fields l.ns))
+
+abbrev pub decreases-loop-i : goal.decreases-loop-i
+decreases-loop-i l = length l.ns - l.i

@@ -1,0 +1,30 @@
+-- Each test is the definition's.
+use mathlib.Core.Bool.{true}
+use mathlib.Core.Logic.{⊎_elim}
+use mathlib.Core.Path.{◌≡◌, sym, ◌∙◌}
+use borrow.Author.Rules.{rules}
+use borrow.Author.Tests.{le-leb, lt-leb}
+use Rattle.item.specs.Code.{allowed}
+use Rattle.reader.specs.Step.{at_plain}
+use Rattle.reader.proofs.at_plain.Goals as goal
+
+pub returns-then-fits_items : goal.returns-then-fits_items
+unfolding at_plain
+returns-then-fits_items c =
+    let t = c in
+    let e : allowed _ _ ≡ true = sym t.is_allowed.ensures ∙ t.if-is_allowed.true in
+    rw (e, le-leb _ _ t.if-v-left.true, ← c.fits_items.ensures, c.if-fits_items.true) c.content_from.ensures
+
+pub returns-then-is_allowed : goal.returns-then-is_allowed
+unfolding at_plain
+returns-then-is_allowed c =
+    let t = c in
+    let e : allowed _ _ ≡ true = sym t.is_allowed.ensures ∙ t.if-is_allowed.true in
+    ⊎_elim
+    (λ w. rw (e, le-leb _ _ w.0.taken, ← w.1.ensures, w.2.left) c.refusal.ensures)
+    (λ w. rw (e, lt-leb _ _ w.left) c.refusal.ensures)
+    c.if-v-left.branch
+
+pub returns : goal.returns
+unfolding at_plain
+returns c = rw (← c.is_allowed.ensures, c.if-is_allowed.false) c.refusal-2.ensures

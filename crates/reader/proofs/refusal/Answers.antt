@@ -1,0 +1,6 @@
+-- The levels of a refused reader are those of no count.
+use borrow.Author.Rules.{rules}
+use Rattle.reader.proofs.refusal.Goals as goal
+
+pub returns : goal.returns
+returns c = rw (← c.none.ensures) c.reader_in.ensures

@@ -1,0 +1,6 @@
+-- Each part is changed by a call that promises it.
+use borrow.Author.Rules.{rules}
+use Rattle.state.proofs.empty_slots.Goals as goal
+
+pub returns : goal.returns
+returns c = rw (c.with_own.ensures, c.with_received.ensures, c.no_slots-l.ensures)

@@ -1,0 +1,6 @@
+-- Each part is built by a call that promises it.
+use borrow.Author.Rules.{rules}
+use Rattle.state.proofs.free_own.Goals as goal
+
+pub returns : goal.returns
+returns c = rw (c.with_own.ensures, c.with_slot.ensures, c.free_slot.ensures)

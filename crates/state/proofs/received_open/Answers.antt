@@ -1,0 +1,6 @@
+-- A slot is found, as the definition asks.
+use borrow.Author.Rules.{rules}
+use Rattle.state.proofs.received_open.Goals as goal
+
+pub returns : goal.returns
+returns c = rw c.find.ensures
