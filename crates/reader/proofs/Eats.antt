@@ -170,17 +170,3 @@ turned p s₀ r i r' a h byte o e stepped answered =
       eats = e ∙ eat_step (state_of r) i i p h ∙ rw (answered, is);
       holds = ap reader_of is ∙ sym stepped;
     }
-
--- a reader that goes on is the one that holds its state
-pub on_holds : (r : Reader) → On r → reader_of (state_of r) ≡ r
-on_holds r o = ap (λ (l : Levels). reader_in r.form r.size r.read l r.phase) (sym (held r o).clean.is)
-
-module _ (s : State) (k : ℕ) (next : Fed) (a : Answer) where
-  pub after_more : a ≡ More → after a s k next ≡ next
-  after_more e = rw e
-
-  pub after_complete : a ≡ Complete → after a s k next ≡ fed Complete k (reader_of s)
-  after_complete e = rw e
-
-  pub after_refusal : (x : ℕ) → a ≡ Refusal x → after a s k next ≡ fed (Refusal x) k (reader_of s)
-  after_refusal x e = rw e

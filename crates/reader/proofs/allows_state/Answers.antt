@@ -78,7 +78,6 @@ returns-else-allows_frame c =
 pub returns-then-allows_frame-2 : goal.returns-then-allows_frame-2
 returns-then-allows_frame-2 c =
     let b = c in
-    let p = b.phase-1.given in
     let r = b.args.r in
     let at : Phase = Length b.in-Length.code b.in-Length.left b.in-Length.value in
     allows_both r at _ b.in-Length.is (sym b.allows_frame-in-Length.ensures ∙ c.if-allows_frame-2.true)
@@ -92,7 +91,6 @@ returns-else-allows_frame-2 c =
 pub returns-then-allows_frame-3 : goal.returns-then-allows_frame-3
 returns-then-allows_frame-3 c =
     let b = c in
-    let p = b.phase-in-Content-1.given in
     let r = b.args.r in
     let at : Phase = Content b.in-Content.code b.in-Content.left in
     allows_both r at _ b.in-Content.is (sym b.allows_frame-in-Content.ensures ∙ c.if-allows_frame-3.true)
@@ -107,7 +105,6 @@ pub returns-then-allows_end : goal.returns-then-allows_end
 unfolding allows_phase
 returns-then-allows_end c =
     let b = c in
-    let p = b.phase-in-Refused-1.given in
     allows_both b.args.r (Refused b.in-Refused.number) _ b.in-Refused.is (sym b.allows_end.ensures ∙ c.if-allows_end.true) c.is_refusal.ensures
 
 pub returns-else-allows_end : goal.returns-else-allows_end

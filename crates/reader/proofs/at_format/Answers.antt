@@ -17,7 +17,7 @@ fit : {x : Bool} (c : goal.After-reader_in) → c.fits_lengths.result ≡ x
     (c.args.b % 4) 0 ≡ x
 fit c e =
     let b = c in
-    let q : stack c.begun-begun.result ≡ began (stack b.args.l) = ap stack c.begun-begun.ensures ∙ begun_stack b.args.l b.pre.clean in
+    let q : stack c.begun-begun.result ≡ began (stack b.args.l) = ap stack c.begun-begun.ensures ∙ begun_stack b.args.l b.requires.clean in
     rw (← q) (sym c.fits_lengths.ensures ∙ e)
 
 -- what was answered there
@@ -26,7 +26,7 @@ fit_2 : {x : Bool} (c : goal.After-refusal-then-is_known) → c.fits_lengths.res
     (c.args.b % 4) 0 ≡ x
 fit_2 c e =
     let b = c in
-    let q : stack c.begun-begun.result ≡ began (stack b.args.l) = ap stack c.begun-begun.ensures ∙ begun_stack b.args.l b.pre.clean in
+    let q : stack c.begun-begun.result ≡ began (stack b.args.l) = ap stack c.begun-begun.ensures ∙ begun_stack b.args.l b.requires.clean in
     rw (← q) (sym c.fits_lengths.ensures ∙ e)
 
 pub returns-then-j-eq0 : goal.returns-then-j-eq0

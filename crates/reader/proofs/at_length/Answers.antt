@@ -8,6 +8,7 @@ use Rattle.follow.specs.Fits.{leads}
 use Rattle.reader.specs.Step.{at_length}
 use Rattle.reader.proofs.Bytes.{reader_over}
 use Rattle.reader.proofs.at_length.Goals as goal
+use Rattle.reader.proofs.at_length.Goals.{then-may_lead+else-fits_lengths, else-may_lead}
 
 pub returns-then-fits_lengths : goal.returns-then-fits_lengths
 unfolding at_length
@@ -24,14 +25,14 @@ unfolding at_length
 returns-then-j-gt0 c =
     let m = c in
     let p = lt-ltb _ _ m.if-j-gt0.true in
-    ⊎_elim
-    (λ w.
-    let l : leads _ _ ≡ true = sym m.may_lead.ensures ∙ w.0.taken in
-    rw (p, l, ← w.1.ensures, w.2.left) c.refusal.ensures)
-    (λ w.
-    let l : leads _ _ ≡ false = sym m.may_lead.ensures ∙ w.left in
-    rw (p, l) c.refusal.ensures)
-    c.if-may_lead.branch
+    elim c.if-may_lead.branch [
+      then-may_lead+else-fits_lengths w ↦
+        let l : leads _ _ ≡ true = sym m.may_lead.ensures ∙ w.if-may_lead.true in
+        rw (p, l, ← w.fits_lengths.ensures, w.if-fits_lengths.false) c.refusal.ensures
+    | else-may_lead w ↦
+        let l : leads _ _ ≡ false = sym m.may_lead.ensures ∙ w.if-may_lead.false in
+        rw (p, l) c.refusal.ensures
+    ]
 
 pub returns-then-c-eq-L : goal.returns-then-c-eq-L
 unfolding at_length

@@ -7,6 +7,7 @@ use borrow.Author.Tests.{le-leb, lt-leb}
 use Rattle.item.specs.Code.{allowed}
 use Rattle.reader.specs.Step.{at_plain}
 use Rattle.reader.proofs.at_plain.Goals as goal
+use Rattle.reader.proofs.at_plain.Goals.{then-v-left+else-fits_items, else-v-left}
 
 pub returns-then-fits_items : goal.returns-then-fits_items
 unfolding at_plain
@@ -20,10 +21,10 @@ unfolding at_plain
 returns-then-is_allowed c =
     let t = c in
     let e : allowed _ _ ≡ true = sym t.is_allowed.ensures ∙ t.if-is_allowed.true in
-    ⊎_elim
-    (λ w. rw (e, le-leb _ _ w.0.taken, ← w.1.ensures, w.2.left) c.refusal.ensures)
-    (λ w. rw (e, lt-leb _ _ w.left) c.refusal.ensures)
-    c.if-v-left.branch
+    elim c.if-v-left.branch [
+      then-v-left+else-fits_items w ↦ rw (e, le-leb _ _ w.if-v-left.true, ← w.fits_items.ensures, w.if-fits_items.false) c.refusal.ensures
+    | else-v-left w ↦ rw (e, lt-leb _ _ w.if-v-left.false) c.refusal.ensures
+    ]
 
 pub returns : goal.returns
 unfolding at_plain

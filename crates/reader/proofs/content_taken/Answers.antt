@@ -15,7 +15,7 @@ pub overflow_add-r : goal.overflow_add-r
 overflow_add-r c =
     let m = c in
     let b = m in
-    let room = content_room b.args.r b.args.code b.args.left b.requires.on b.requires.phase_value.0 in
+    let room = content_room b.args.r b.args.code b.args.left b.requires.on b.requires.phase_value in
     omega (arith, m.content_run-m.ensures.0, room, (held b.args.r b.requires.on).live.bounded)
 
 pub content_from-requires : goal.content_from-requires
@@ -32,6 +32,6 @@ returns c =
     let some : 0 < m.content_run-m.result = omega (arith, l.if-m-eq0.false) in
     let k = m.content_run-m.result in
     let to = ap (λ (x : Levels). reader_of (content_from a.r.form a.r.size (a.r.read + k) (stack x) a.code (a.left - k))) l.levels_in.ensures in
-    run_turned a.r a.code a.left a.piece.now a.from k c.content_from.result b.requires.on b.requires.phase_value.0 some
+    run_turned a.r a.code a.left a.piece.now a.from k c.content_from.result b.requires.on b.requires.phase_value some
     m.content_run-m.ensures.0 m.content_run-m.ensures.1 (λ j. omega (arith, m.type_inv.piece j)) m.content_run-m.ensures.2
     (c.content_from.ensures ∙ to)

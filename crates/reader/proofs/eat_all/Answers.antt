@@ -17,7 +17,7 @@ turn : (c : goal.In-More)
 turn c =
     let l = c.loop-i in
     let byte = c.type_inv.piece l.i in
-    turned _ _ l.state l.i _ _ (omega arith) (omega (arith, byte)) l.inv.1 l.inv.2 c.step_byte-state.ensures c.status_in-answer.ensures
+    turned _ _ l.state l.i _ _ (omega arith) (omega (arith, byte)) l.invariant.1 l.invariant.2 c.step_byte-state.ensures c.status_in-answer.ensures
 
 -- the turn, where its answer is known
 turn_2 : (c : goal.In-Complete)
@@ -25,7 +25,7 @@ turn_2 : (c : goal.In-Complete)
 turn_2 c =
     let l = c.loop-i in
     let byte = c.type_inv.piece l.i in
-    turned _ _ l.state l.i _ _ (omega arith) (omega (arith, byte)) l.inv.1 l.inv.2 c.step_byte-state.ensures c.status_in-answer.ensures
+    turned _ _ l.state l.i _ _ (omega arith) (omega (arith, byte)) l.invariant.1 l.invariant.2 c.step_byte-state.ensures c.status_in-answer.ensures
 
 -- the turn, where its answer is known
 turn_3 : (c : goal.In-Refusal)
@@ -33,7 +33,7 @@ turn_3 : (c : goal.In-Refusal)
 turn_3 c =
     let l = c.loop-i in
     let byte = c.type_inv.piece l.i in
-    turned _ _ l.state l.i _ _ (omega arith) (omega (arith, byte)) l.inv.1 l.inv.2 c.step_byte-state.ensures c.status_in-answer.ensures
+    turned _ _ l.state l.i _ _ (omega arith) (omega (arith, byte)) l.invariant.1 l.invariant.2 c.step_byte-state.ensures c.status_in-answer.ensures
 
 pub loop-i-init : goal.loop-i-init
 loop-i-init c =

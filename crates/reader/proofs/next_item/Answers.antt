@@ -81,7 +81,7 @@ returns-in-More c = c.seek_item.ensures ∙ answered c More c.in-More.is
 pub returns-then-piece-eq0 : goal.returns-then-piece-eq0
 returns-then-piece-eq0 c =
     let b = c in
-    c.Found-Nothing.ensures ∙ nothing b.args.r b.args.piece.now c.if-piece-eq0.true
+    c.found_nothing.ensures ∙ nothing b.args.r b.args.piece.now c.if-piece-eq0.true
     ∙ answered_2 b Complete c.in-Complete.is
 
 pub returns-else-piece-eq0 : goal.returns-else-piece-eq0
@@ -93,7 +93,6 @@ returns-else-piece-eq0 c =
 pub returns-in-Refusal : goal.returns-in-Refusal
 returns-in-Refusal c =
     let b = c in
-    let x = c.answer-1.given in
     c.found_nothing-in-Refusal.ensures ∙ answered_4 b (Refusal c.in-Refusal.number) c.in-Refusal.is
 
 pub returns-else-allows_state : goal.returns-else-allows_state

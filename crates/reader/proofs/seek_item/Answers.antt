@@ -23,7 +23,7 @@ went c =
     let x = c.shown_by-found in
     let l = c.loop-i in
     seeks_on _ _ l.state l.i t.result.reader t.result.used c.status_in-answer.result x.result t.ensures c.status_in-answer.ensures x.ensures
-    l.inv.2
+    l.invariant.2
 
 -- the turn, where its answer is known
 went_2 : (c : goal.Else-is_item)
@@ -35,7 +35,7 @@ went_2 c =
     let x = c.shown_by-found in
     let l = c.loop-i in
     seeks_on _ _ l.state l.i t.result.reader t.result.used c.status_in-answer.result x.result t.ensures c.status_in-answer.ensures x.ensures
-    l.inv.2
+    l.invariant.2
 
 -- the turn, where its answer is known
 went_3 : (c : goal.In-Complete)
@@ -47,7 +47,7 @@ went_3 c =
     let x = c.shown_by-found in
     let l = c.loop-i in
     seeks_on _ _ l.state l.i t.result.reader t.result.used c.status_in-answer.result x.result t.ensures c.status_in-answer.ensures x.ensures
-    l.inv.2
+    l.invariant.2
 
 -- the turn, where its answer is known
 went_4 : (c : goal.In-Refusal)
@@ -59,7 +59,7 @@ went_4 c =
     let x = c.shown_by-found in
     let l = c.loop-i in
     seeks_on _ _ l.state l.i t.result.reader t.result.used c.status_in-answer.result x.result t.ensures c.status_in-answer.ensures x.ensures
-    l.inv.2
+    l.invariant.2
 
 pub loop-i-init : goal.loop-i-init
 loop-i-init c = (omega arith, c.requires, refl)
@@ -68,7 +68,7 @@ pub shown_by-found-requires : goal.shown_by-found-requires
 shown_by-found-requires c = ready c.loop-i.state c.loop-i.invariant.1
 
 pub turn-t-requires : goal.turn-t-requires
-turn-t-requires c = (c.loop-i.invariant.1, omega (arith, c.loop-i-test.true))
+turn-t-requires c = record { on = c.loop-i.invariant.1; from_in_bounds = omega (arith, c.loop-i-test.true) }
 
 pub overflow_add-i : goal.overflow_add-i
 overflow_add-i c = omega (arith, c.turn-t.ensures.within)

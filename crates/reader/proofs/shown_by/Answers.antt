@@ -43,13 +43,11 @@ returns-in-Format c =
 pub returns-then-left-gt1 : goal.returns-then-left-gt1
 returns-then-left-gt1 c =
     let b = c in
-    let x = c.phase-1.given in
     at_phase b.args.r (Length c.in-Length.code c.in-Length.left c.in-Length.value) b.args.b _ c.in-Length.is (rw (lt-ltb 0 (c.in-Length.left - 1) (omega arith)))
 
 pub returns-else-left-gt1 : goal.returns-else-left-gt1
 returns-else-left-gt1 c =
     let b = c in
-    let x = c.phase-1.given in
     at_phase b.args.r (Length c.in-Length.code c.in-Length.left c.in-Length.value) b.args.b _ c.in-Length.is (rw (le-ltb 0 (c.in-Length.left - 1) (omega arith)))
 
 pub returns-in-Content : goal.returns-in-Content

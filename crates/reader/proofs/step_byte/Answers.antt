@@ -35,12 +35,12 @@ pub at_length-requires : goal.at_length-requires
 at_length-requires c =
     let b = c in
     let h = length_small b.requires.phase c.in-Length.is b.args.b (omega arith) in
-    (rw c.levels_in-l.ensures b.requires.spot, h.2)
+    record { spot = rw c.levels_in-l.ensures b.requires.spot; v_bound = h.2 }
 
 pub at_content-requires : goal.at_content-requires
 at_content-requires c =
     let b = c in
-    (rw c.levels_in-l.ensures b.requires.spot, subst ReadyAt c.in-Content.is b.requires.phase)
+    record { spot = rw c.levels_in-l.ensures b.requires.spot; left_nonzero = subst ReadyAt c.in-Content.is b.requires.phase }
 
 pub returns-in-Format : goal.returns-in-Format
 unfolding step_at
@@ -54,7 +54,6 @@ unfolding step_at
 returns-in-Length c =
     let l = c in
     let b = l in
-    let x = c.phase-1.given in
     step_in b.args.r l.levels_in-l.result (Length c.in-Length.code c.in-Length.left c.in-Length.value) b.args.b l.levels_in-l.ensures c.in-Length.is
     c.at_length.ensures
 
@@ -63,7 +62,6 @@ unfolding step_at
 returns-in-Content c =
     let l = c in
     let b = l in
-    let x = c.phase-in-Content-1.given in
     step_in b.args.r l.levels_in-l.result (Content c.in-Content.code c.in-Content.left) b.args.b l.levels_in-l.ensures c.in-Content.is c.at_content.ensures
 
 pub returns-in-Refused : goal.returns-in-Refused
@@ -71,5 +69,4 @@ unfolding step_at
 returns-in-Refused c =
     let l = c in
     let b = l in
-    let x = c.phase-in-Refused-1.given in
     step_in b.args.r l.levels_in-l.result (Refused c.in-Refused.number) b.args.b l.levels_in-l.ensures c.in-Refused.is c.refusal.ensures
