@@ -14,8 +14,7 @@ use Rattle.rows.specs.Row.{inside}
 use Rattle.rows.specs.declared.Row.{Row}
 use Rattle.rows.proofs.Tables.{part_between}
 use Rattle.text.specs.Text.{part_number_as, part_number, part_of}
-use Rattle.text.proofs.part.Statement.{statement}
-use Rattle.text.proofs.part.Tie as tie
+use Rattle.text.proofs.part.Goals as goal
 
 -- a number 0 puts the part within the text
 within : (t : List ℕ) (r : Row) → part_number t r ≡ 0 → r.place + r.length ≤ length t
@@ -28,22 +27,16 @@ within t r e = go (kind_of r.code) (inside t r) refl e
     go (K.Plain _) true i z = leb-true (r.place + r.length) (length t) i
     go (K.Plain _) false i z = absurd (omega arith)
 
-part-result-end : tie.Need-slice-bounds-result-end
-part-result-end c = omega (arith, within _ _ (sym c.before.before.before.part-number.ensures ∙ c.before.before.if1.true))
+pub slice_bounds-result-end : goal.slice_bounds-result-end
+slice_bounds-result-end c = omega (arith, within _ _ (sym c.part_number-n.ensures ∙ c.if-n-eq0.true))
 
-returns : tie.Need-returns
+pub returns-then-n-eq0 : goal.returns-then-n-eq0
 unfolding part_of
-returns c =
-    let a = c.before.before.before.before.before.before.args in
-    let z = sym c.before.before.before.before.part-number.ensures ∙ c.before.before.before.if1.true in
-    (rw (eq-eqb _ _ z) (part_between a.text.now a.r), c.before.before.before.before.part-number.ensures)
+returns-then-n-eq0 c =
+    let a = c.args in
+    let z = sym c.part_number-n.ensures ∙ c.if-n-eq0.true in
+    (rw (eq-eqb _ _ z) (part_between a.text.now a.r), c.part_number-n.ensures)
 
-returns-2 : tie.Need-returns-2
+pub returns-else-n-eq0 : goal.returns-else-n-eq0
 unfolding part_of
-returns-2 c = (rw (← c.before.before.part-number.ensures, ne_eqb _ _ c.before.if1.false), c.before.before.part-number.ensures)
-
-pub part_spec : {M : Type 1} → statement M
-part_spec =
-    tie.close
-    (tie.spec (λ c κs. search rules) (λ c. search rules) (λ c. search rules) (λ c. search rules) (λ c. search rules) (λ c. search rules)
-    part-result-end (λ c. search rules) (λ c. search rules) (λ c. search rules) returns returns-2)
+returns-else-n-eq0 c = (rw (← c.part_number-n.ensures, ne_eqb _ _ c.if-n-eq0.false), c.part_number-n.ensures)

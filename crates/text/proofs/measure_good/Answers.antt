@@ -1,0 +1,58 @@
+-- The rows and the bytes counted so far, and those of the walk that is left, are those of the whole text.
+use borrow.Author.Rules.{rules}
+use Prim.Native.Nat.{◌+◌, ◌-◌, ◌≤◌}
+use mathlib.Core.Path.{◌≡◌, refl, ap, ap₂}
+use native.Mathlib.Omega.{arith}
+use lib.ListN.{length, drop}
+use Rattle.rows.specs.Row.{size_of}
+use Rattle.rows.specs.Rows.{rows_from, rows_in}
+use Rattle.rows.specs.Asked.{Ends}
+use Rattle.text.specs.declared.Measured.TheVariants.{Are}
+use Rattle.text.proofs.Turn.{Turn, turn, rows_end}
+use Rattle.text.proofs.measure_good.Goals as goal
+
+-- the turn, when the row is known and the place behind it
+turned : (c : goal.After-behind-p) → Turn c.args.text.now c.loop-p.p c.row_at-r.result c.behind-p.result
+turned c =
+    let l = c.loop-p in
+    turn _ l.p _ _ c.loop-p-test.true l.invariant.2 c.row_at-r.ensures c.behind-p.ensures
+
+pub loop-p-init : goal.loop-p-init
+loop-p-init c = (omega arith, omega arith, c.requires.ends, omega arith, omega arith)
+
+pub row_at-r-requires : goal.row_at-r-requires
+row_at-r-requires c =
+    let l = c.loop-p in
+    record { short = c.requires.short; there = c.loop-p-test.true; whole = (turn _ l.p _ _ c.loop-p-test.true l.invariant.2 refl refl).header }
+
+pub overflow_add-bytes : goal.overflow_add-bytes
+unfolding size_of
+overflow_add-bytes c =
+    let l = c.loop-p in
+    let t = turn _ l.p c.row_at-r.result _ c.loop-p-test.true l.invariant.2 c.row_at-r.ensures refl in
+    omega (arith, l.invariant.4, ap size_of t.rows, c.lean_size-bytes.ensures, c.requires.few)
+
+pub overflow_add-rows : goal.overflow_add-rows
+overflow_add-rows c = omega (arith, c.loop-p.invariant.1, c.requires.short)
+
+pub loop-p-smaller : goal.loop-p-smaller
+loop-p-smaller c = let t = turned c in omega (arith, t.on, t.within)
+
+pub loop-p-preserved : goal.loop-p-preserved
+unfolding size_of
+loop-p-preserved c =
+    let t = turned c in
+    let l = c.loop-p in (
+      t.within,
+      omega (arith, t.on, l.invariant.1),
+      t.ends,
+      omega (arith, l.invariant.3, ap length t.rows),
+      omega (arith, l.invariant.4, ap size_of t.rows, c.lean_size-bytes.ensures),
+    )
+
+pub returns : goal.returns
+unfolding size_of
+returns c =
+    let l = c.loop-p in
+    let e = rows_end c.args.text.now l.p c.loop-p-test.false in
+    ap₂ Are (omega (arith, l.invariant.3, ap length e)) (omega (arith, l.invariant.4, ap size_of e))
