@@ -1,3 +1,5 @@
+#![tactic(auto)]
+
 ghost use Rattle.std.specs.Prelude.{◌≡◌};
 ghost use Rattle.item.specs.Code.{kind_of, name_of, allowed_by, allowed, largest};
 ghost use Rattle.item.specs.Item.{fewest, limit};

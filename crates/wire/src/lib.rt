@@ -1,3 +1,5 @@
+#![tactic(auto)]
+
 ghost use Rattle.std.specs.Prelude.{◌≡◌, ◌<◌, ◌≤◌, ◌*◌, ◌^◌, min, length, take, ltb};
 ghost use Rattle.wire.specs.Number.{number_of, bytes_of};
 ghost use Rattle.wire.specs.Lent.{copied};

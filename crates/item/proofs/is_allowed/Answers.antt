@@ -1,5 +1,4 @@
 -- The kind decides, as in the definition.
-use borrow.Author.Rules.{rules}
 use mathlib.Core.Path.{◌≡◌, sym, ◌∙◌}
 use Rattle.item.specs.Code.{kind_of, allowed}
 use Rattle.item.specs.declared.Kind.TheVariants.{List as a_list, Plain, Unknown}

@@ -1,5 +1,4 @@
 -- Each arm's keys have the arm's kind in the table, and the arms have every number of the table.
-use borrow.Author.Rules.{rules}
 use Prim.Native.Nat.{ℕ}
 use mathlib.Core.Path.{◌≡◌, refl, sym, ap, ◌∙◌}
 use mathlib.Core.List.{List, [], ◌∷◌}

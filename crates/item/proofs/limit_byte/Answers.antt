@@ -1,5 +1,4 @@
 -- The form decides, then the code, as in the definition.
-use borrow.Author.Rules.{rules}
 use borrow.Author.Tests.{eq-eqb, ne_eqb}
 use Rattle.item.specs.Code.{BOOLEAN}
 use Rattle.item.proofs.limit_byte.Goals as goal

@@ -1,11 +1,7 @@
 -- The invariant: the levels passed await nothing, so the innermost level that awaits something is the same from here.
-use Prim.Native.Nat.{ℕ, suc, ◌-◌, ◌≤◌}
-use mathlib.Core.Path.{◌≡◌, refl, sym, ap, ◌∙◌}
-use native.Mathlib.Omega.{arith}
-use borrow.Author.Tests.{le-leb, lt-leb, eqb-true, eqb-false}
-use Rattle.levels.specs.declared.Levels.{Levels}
-use Rattle.levels.specs.Levels.{closed_of, innermost}
-use Rattle.levels.proofs.Laws.{innermost_none, innermost_some}
+use Prim.Native.Nat.{◌≤◌}
+use mathlib.Core.Path.{◌≡◌}
+use Rattle.levels.specs.Levels.{innermost}
 use Rattle.levels.proofs.closed.Given as goal
 
 abbrev pub invariant-loop-d : goal.invariant-loop-d

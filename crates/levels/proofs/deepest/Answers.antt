@@ -2,7 +2,6 @@
 use Prim.Native.Nat.{ℕ}
 use mathlib.Core.Path.{◌≡◌, sym, ◌∙◌}
 use mathlib.Core.List.{List}
-use borrow.Author.Rules.{rules}
 use lib.ListN.{get_or}
 use Rattle.levels.specs.Levels.{stack_of, stack, deepest}
 use Rattle.levels.proofs.Laws.{stack_length, deepest_none}

@@ -1,7 +1,6 @@
 -- The test on the depth is the definition's.
 use native.Mathlib.Omega.{arith}
 use borrow.Author.Tests.{lt-ltb, le-ltb}
-use borrow.Author.Rules.{rules}
 use Rattle.levels.specs.Levels.{opened_of}
 use Rattle.levels.proofs.opened.Goals as goal
 

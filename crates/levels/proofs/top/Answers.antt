@@ -1,6 +1,5 @@
 -- The three returns are the three ranges of the depth.
 use native.Mathlib.Omega.{arith}
-use borrow.Author.Rules.{rules}
 use Rattle.levels.specs.Levels.{top_of}
 use Rattle.levels.proofs.Open.{open_some, open_none, open_past}
 use Rattle.levels.proofs.top.Goals as goal

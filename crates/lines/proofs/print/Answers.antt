@@ -1,6 +1,5 @@
 -- Each arm puts the line that the definition says of it.
 use mathlib.Core.Path.{ap}
-use borrow.Author.Rules.{rules}
 use Rattle.lines.specs.Text.{refusal_line, end_line, line_text}
 use Rattle.lines.proofs.Stored.{stored, first_as}
 use Rattle.lines.proofs.print.Goals as goal

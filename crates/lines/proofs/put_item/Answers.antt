@@ -1,12 +1,10 @@
 -- The letter, the depth, the name, the length and the line end are stored one behind another.
 use mathlib.Core.List.{[], ◌∷◌}
 use native.Mathlib.Omega.{arith}
-use lib.ListN.{length}
 use Rattle.lines.specs.Text.{newline, number_field, name_field, item_line}
 use Rattle.lines.proofs.Fields.{field_short}
 use Rattle.lines.proofs.Named.{name_short}
 use Rattle.lines.proofs.Stored.{Stored, stored, kept, then}
-use borrow.Author.Rules.{rules}
 use Rattle.lines.proofs.put_item.Goals as goal
 
 pub put_name-c-requires : goal.put_name-c-requires

@@ -4,7 +4,6 @@ use Rattle.lines.specs.Text.{newline, fields}
 use native.Mathlib.Omega.{arith}
 use Rattle.lines.proofs.Fields.{fields_short}
 use Rattle.lines.proofs.Stored.{Stored, stored, kept, then}
-use borrow.Author.Rules.{rules}
 use Rattle.lines.proofs.put_line.Goals as goal
 
 pub put-requires : goal.put-requires

@@ -1,6 +1,5 @@
 -- The line of seven numbers.
 use Rattle.lines.specs.Text.{message_line}
-use borrow.Author.Rules.{rules}
 use Rattle.lines.proofs.put_message.Goals as goal
 
 pub returns : goal.returns

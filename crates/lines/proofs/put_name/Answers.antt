@@ -11,13 +11,12 @@ use Rattle.lines.proofs.Stored.{Stored, stored, kept, then}
 use borrow.Author.Rules.{rules}
 use Rattle.lines.proofs.put_name.Goals as goal
 
--- TODO no goal for slice-bounds-put-end
--- part-put-end : tie.Need-slice-bounds-put-end
--- part-put-end c = letters_in _ _ c.before.before.before.before.before.before.before.before.name_of.ensures
+pub slice_bounds-put-end-2 : goal.slice_bounds-put-end-2
+slice_bounds-put-end-2 c = letters_in _ _ c.name_of-name.ensures
 
 pub put-requires : goal.put-requires
 put-requires c =
-    let p : Stored c.args.out.now c.args.at (tab ∷ []) c.put.new.0 c.put.result = stored c.put.ensures in
+    let p : Stored c.args.out.now c.args.at (tab ∷ []) c.put-a.new.out c.put-a.result = stored c.put-a.ensures in
     let n = c.name_of-name.result in
     let full : length n.0 ≡ 7 = search rules in
     omega (arith, kept p, p.behind, length-take (n.1 - 0) n.0, full, c.requires)
@@ -25,8 +24,8 @@ put-requires c =
 pub returns : goal.returns
 returns c =
     let a = c.args in
-    let p : Stored a.out.now a.at (tab ∷ []) c.put.new.0 c.put.result = stored c.put.ensures in
+    let p : Stored a.out.now a.at (tab ∷ []) c.put-a.new.out c.put-a.result = stored c.put-a.ensures in
     let e = letters_are _ _ c.name_of-name.ensures in
-    let q : Stored c.put.new.0 c.put.result (letters (found a.code codes).name) c.put.new.out c.put.result = stored (rw e at c.put.ensures) in
+    let q : Stored c.put-a.new.out c.put-a.result (letters (found a.code codes).name) c.put.new.out c.put.result = stored (rw e at c.put.ensures) in
     let w = then p q in
     (w.behind, w.is)

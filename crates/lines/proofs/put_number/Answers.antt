@@ -15,19 +15,19 @@ put-requires c =
     let d = c.decimal-k in
     let a = c.args in
     let small : a.n < 2 ^ 64 = search rules in
-    let p = c.put in
-    let l : length p.new.0 ≡ length a.out.now = ap length p.ensures.1 ∙ length-sets a.out.now a.at (tab ∷ []) in
-    omega (arith, digits_short a.n d.result _ small d.ensures.1.0 d.ensures.1.1, l, p.ensures.0, c.requires)
+    let p = c.put-a in
+    let l : length p.new.out ≡ length a.out.now = ap length p.ensures.1 ∙ length-sets a.out.now a.at (tab ∷ []) in
+    omega (arith, digits_short a.n d.result _ small d.ensures.len d.ensures.digits, l, p.ensures.0, c.requires)
 
 pub returns : goal.returns
 returns c =
     let d = c.decimal-k in
     let a = c.args in
-    let p = c.put in
+    let p = c.put-a in
     let q = c.put in
     let small : a.n < 2 ^ 64 = search rules in
-    let f = d.ensures.1.0 in
-    let e = d.ensures.1.1 in (
+    let f = d.ensures.len in
+    let e = d.ensures.digits in (
       field_end a.n d.result _ small f e a.out.now _ _ a.at p.result q.result p.ensures.0 p.ensures.1 q.ensures.0 q.ensures.1,
       field_stored a.n d.result _ small f e a.out.now _ _ a.at p.result q.result p.ensures.0 p.ensures.1 q.ensures.0 q.ensures.1,
     )

@@ -1,12 +1,11 @@
 -- The fields still to put, stored behind the place, stay the fields of all numbers stored behind the first place.
-use borrow.Author.Rules.{rules}
-use Prim.Native.Nat.{suc, ◌+◌, ◌-◌, ◌*◌, ◌≤◌}
+use Prim.Native.Nat.{suc, ◌+◌}
 use mathlib.Core.Path.{◌≡◌, refl, ap, ◌∙◌}
 use native.Mathlib.Numerals.{add-one}
 use native.Mathlib.Omega.{arith}
-use lib.ListN.{length, drop, get_or}
-use lib.Seq.{sets, length-sets}
-use Rattle.lines.specs.Text.{number_field, fields}
+use lib.ListN.{length, get_or}
+use lib.Seq.{length-sets}
+use Rattle.lines.specs.Text.{number_field}
 use Rattle.lines.proofs.Fields.{field_short, next_end, next_stored, no_fields}
 use Rattle.lines.proofs.put_numbers.Goals as goal
 

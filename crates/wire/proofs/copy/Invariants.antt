@@ -1,14 +1,8 @@
 -- The bytes copied so far stand before those that were there; the loop ends with the shorter of both.
-use Prim.Native.Nat.{ℕ, ◌-◌, ◌≤◌, ◌<◌}
-use mathlib.Core.Path.{◌≡◌, refl, sym, ap, ap₂, ◌∙◌}
-use mathlib.Core.List.{List, ◌++◌}
-use native.Mathlib.Numerals.{add-one}
-use native.Mathlib.Omega.{arith}
-use borrow.Author.Tests.{ltb-true, ltb-false}
-use lib.ListN.{length, get_or, take, drop, set, length-set, drop_of_length-le}
-use lib.Seq.{take_all}
-use Rattle.wire.specs.Lent.{copied}
-use Rattle.wire.proofs.Stores.{fill_turn}
+use Prim.Native.Nat.{◌-◌, ◌≤◌}
+use mathlib.Core.Path.{◌≡◌}
+use mathlib.Core.List.{◌++◌}
+use lib.ListN.{length, take, drop}
 use Rattle.wire.proofs.copy.Given as goal
 
 abbrev pub invariant-loop-i : goal.invariant-loop-i

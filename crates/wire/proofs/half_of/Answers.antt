@@ -1,6 +1,5 @@
 -- Each width's half is the definition's.
 use mathlib.Core.Path.{sym, ap}
-use borrow.Author.Rules.{rules}
 use Rattle.wire.specs.Twos.{half_of}
 use Rattle.wire.proofs.half_of.Goals as goal
 

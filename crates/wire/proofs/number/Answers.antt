@@ -1,5 +1,4 @@
 -- At most eight bytes are their own first eight; of more, the first eight are read.
-use borrow.Author.Rules.{rules}
 use Prim.Native.Nat.{ℕ, ◌<◌, ◌≤◌, ◌^◌}
 use native.Mathlib.Nat.{lt_of_lt_of_le, pow-le-pow_right, zero-lt-suc}
 use native.Mathlib.Omega.{arith}

@@ -1,14 +1,8 @@
 -- The number read so far, in front of the bytes still to read, stays the number of all of them; and it has as many bytes as were read.
-use mathlib.Core.Path.{◌≡◌, sym, ap, ◌∙◌, subst}
-use Prim.Native.Nat.{ℕ, suc, ◌+◌, ◌*◌, ◌-◌, ◌<◌, ◌≤◌, ◌^◌}
-use native.Mathlib.Numerals.{add-one}
-use native.Mathlib.Nat.{lt_of_lt_of_le, pow-le-pow_right, zero-lt-suc, pow-suc}
-use native.Mathlib.Omega.{arith}
-use lib.Arith.{digits_lt}
-use lib.ListN.{length, drop, get_or}
-use lib.Seq.{drop-cons, drop-length}
+use mathlib.Core.Path.{◌≡◌}
+use Prim.Native.Nat.{◌+◌, ◌*◌, ◌-◌, ◌<◌, ◌≤◌, ◌^◌}
+use lib.ListN.{length, drop}
 use Rattle.wire.specs.Number.{number_of}
-use Rattle.wire.proofs.Numbers.{number_on}
 use Rattle.wire.proofs.number_of_few.Given as goal
 
 abbrev pub invariant-loop-i : goal.invariant-loop-i

@@ -1,12 +1,9 @@
 -- The bytes still to write, in front of those written, stay the bytes of the number.
-use mathlib.Core.Path.{◌≡◌, refl, ap, ◌∙◌}
-use mathlib.Core.List.{List, ◌∷◌, ◌++◌, append_assoc, append-nil}
-use Prim.Native.Nat.{ℕ, suc, ◌-◌, ◌/◌, ◌%◌, ◌<◌, ◌≤◌}
-use native.Mathlib.Omega.{arith}
-use lib.ListN.{length, drop, take, set, length-set}
-use lib.Seq.{drop-length, set_split, drop_at, length-take-le}
+use mathlib.Core.Path.{◌≡◌}
+use mathlib.Core.List.{◌++◌}
+use Prim.Native.Nat.{◌≤◌}
+use lib.ListN.{length, drop}
 use Rattle.wire.specs.Number.{bytes_of}
-use Rattle.wire.proofs.Numbers.{bytes_last}
 use Rattle.wire.proofs.put.Given as goal
 
 abbrev pub invariant-loop-i : goal.invariant-loop-i

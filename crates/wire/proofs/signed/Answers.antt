@@ -1,5 +1,4 @@
 -- A number's last bytes are what is left of the half, or the half more; the casts read the one as it is and the other as the negative number it stands for.
-use borrow.Author.Rules.{rules}
 use Prim.Native.Nat.{ℕ, suc, ◌+◌, ◌-◌, ◌*◌, ◌/◌, ◌%◌, ◌<◌, ◌≤◌, ◌^◌}
 use mathlib.Core.Path.{◌≡◌, sym, ap, ◌∙◌}
 use native.Mathlib.Nat.{mod-lt}
