@@ -1,3 +1,5 @@
+#![tactic(auto)]
+
 ghost use Rattle.std.specs.Prelude.{◌≡◌};
 ghost use Rattle.allowed.specs.Slots.{allows_slot, allows_slots};
 ghost use Rattle.allowed.specs.States.{allows_link, allows_device, allows_open, allows_test, allows};

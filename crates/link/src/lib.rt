@@ -1,3 +1,5 @@
+#![tactic(auto)]
+
 ghost use Rattle.std.specs.Prelude.{◌≡◌};
 ghost use Rattle.link.specs.Rows.{answer, told, leaves, rejecting, rejected_of, select_req_of, deselect_req_of, linktest_req_of, linktest_rsp_of};
 ghost use Rattle.link.specs.Rows.{separate_req_of, connect_of, disconnect_of, linktest_of, separate_of, t6_of, t7_of, t8_of};

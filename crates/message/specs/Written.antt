@@ -1,7 +1,7 @@
 -- A message to send, as a frame: an S9 carries one lean B item of the 10 header bytes complained of.
-use Rattle.std.specs.Prelude.{ℕ, List, [], ◌∷◌, ◌++◌, length}
+use Rattle.std.specs.Prelude.{ℕ, List, [], length}
 use Rattle.wire.specs.declared.Counted.{Counted}
-use Rattle.wire.specs.declared.Counted.TheVariants.{Is, Refused}
+use Rattle.wire.specs.declared.Counted.TheVariants.{Is}
 use Rattle.item.specs.Item.{plain, lean_item}
 use Rattle.frame.specs.Header.{header_bytes}
 use Rattle.frame.specs.Frame.{frame_of, written_of}

@@ -1,3 +1,5 @@
+#![tactic(auto)]
+
 ghost use Rattle.std.specs.Prelude.{◌≡◌, length};
 ghost use Rattle.wire.specs.Lent.{out_after};
 ghost use Rattle.message.specs.Message.{received_of, control, response, reject};

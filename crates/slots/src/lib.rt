@@ -1,3 +1,5 @@
+#![tactic(auto)]
+
 ghost use Rattle.std.specs.Prelude.{◌≡◌, set};
 ghost use Rattle.slots.specs.Slots.{free, slot_of, no_slots, no_test, test_of, passes, found_at, runs, is_primary};
 

@@ -1,3 +1,5 @@
+#![tactic(auto)]
+
 ghost use Rattle.std.specs.Prelude.{◌≡◌};
 ghost use Rattle.state.specs.State.{session_of, made_of, fresh, connected, selected, with_phase, with_test, with_next, numbered, gone};
 ghost use Rattle.state.specs.State.{with_received, with_own, with_flag, received_freed, own_freed, emptied, received_open};

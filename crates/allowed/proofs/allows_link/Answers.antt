@@ -1,5 +1,4 @@
 -- The definition asks the same tests.
-use borrow.Author.Rules.{rules}
 use Rattle.allowed.specs.States.{allows_link}
 use Rattle.allowed.proofs.allows_link.Goals as goal
 

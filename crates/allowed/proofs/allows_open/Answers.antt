@@ -1,5 +1,4 @@
 -- The definition asks the same tests.
-use borrow.Author.Rules.{rules}
 use Rattle.slots.proofs.Found.{none_found}
 use Rattle.allowed.specs.States.{allows_open}
 use Rattle.allowed.proofs.allows_open.Goals as goal

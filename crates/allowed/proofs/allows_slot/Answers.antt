@@ -1,7 +1,6 @@
 -- The definition asks the same tests.
 use mathlib.Core.Path.{sym, ◌∙◌}
 use native.Mathlib.Omega.{arith}
-use borrow.Author.Rules.{rules}
 use borrow.Author.Tests.{eq-eqb, ne_eqb}
 use Rattle.slots.specs.Slots.{found_at}
 use Rattle.slots.specs.declared.Query.TheVariants.{Named}

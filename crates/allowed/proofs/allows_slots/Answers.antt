@@ -1,7 +1,5 @@
 -- The invariant: each of the first i slots is allowed. One that is not allowed is enough against the table.
-use Prim.Native.Nat.{◌-◌, ◌≤◌}
 use mathlib.Core.Path.{◌≡◌, refl, sym, ◌∙◌}
-use mathlib.Core.Bool.{true}
 use native.Mathlib.Omega.{arith}
 use borrow.Author.Rules.{rules}
 use Rattle.allowed.specs.Slots.{allows_first, allows_slots}

@@ -1,11 +1,8 @@
 -- The invariant: each of the first i slots is allowed. One that is not allowed is enough against the table.
 use Prim.Native.Nat.{◌-◌, ◌≤◌}
-use mathlib.Core.Path.{◌≡◌, refl, sym, ◌∙◌}
+use mathlib.Core.Path.{◌≡◌}
 use mathlib.Core.Bool.{true}
-use native.Mathlib.Omega.{arith}
-use borrow.Author.Rules.{rules}
-use Rattle.allowed.specs.Slots.{allows_first, allows_slots}
-use Rattle.allowed.proofs.Slots.{allows_more, allows_fails}
+use Rattle.allowed.specs.Slots.{allows_first}
 use Rattle.allowed.proofs.allows_slots.Given as goal
 
 abbrev pub invariant-loop-i : goal.invariant-loop-i

@@ -1,9 +1,9 @@
 -- The invariant: the fresh number is the first from n on that is not held, of the tries that are left. At first 33 are enough.
-use Prim.Native.Nat.{ℕ, ◌+◌, ◌-◌, ◌≤◌}
+use Prim.Native.Nat.{ℕ, ◌+◌, ◌-◌}
 use mathlib.Core.Path.{◌≡◌, sym, ap, ◌∙◌}
 use native.Mathlib.Omega.{arith}
 use borrow.Author.Rules.{rules}
-use Rattle.fresh.specs.Fresh.{is_held, one_more, first_of, fresh_of}
+use Rattle.fresh.specs.Fresh.{is_held, one_more, first_of}
 use Rattle.fresh.proofs.Fresh.{first_here, first_next, first_last, fresh_tries}
 use Rattle.fresh.proofs.fresh_number.Goals as goal
 

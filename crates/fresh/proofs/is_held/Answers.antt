@@ -1,6 +1,5 @@
 -- The definition asks the same two tests.
 use native.Mathlib.Omega.{arith}
-use borrow.Author.Rules.{rules}
 use borrow.Author.Tests.{lt-ltb, le-ltb}
 use Rattle.slots.specs.Slots.{found_at}
 use Rattle.fresh.specs.Fresh.{is_held}

@@ -1,5 +1,4 @@
 -- The definition asks the same test: the greatest number is 2 ^ 32 - 1.
-use borrow.Author.Rules.{rules}
 use borrow.Author.Tests.{eq-eqb, ne_eqb}
 use Rattle.fresh.specs.Fresh.{one_more}
 use Rattle.fresh.proofs.one_more.Goals as goal

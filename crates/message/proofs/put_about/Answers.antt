@@ -1,10 +1,9 @@
 -- The format byte, the length byte and the ten bytes behind them fill the twelve bytes.
-use borrow.Author.Rules.{rules}
 use Prim.Native.Nat.{ℕ}
 use mathlib.Core.Path.{◌≡◌, sym, ap, ◌∙◌}
 use mathlib.Core.List.{List, [], ◌∷◌, ◌++◌, append-nil}
 use native.Mathlib.Omega.{arith}
-use lib.ListN.{length, take, drop, set, length-set, length-take, drop_of_length-le}
+use lib.ListN.{length, take, drop, set, length-take, drop_of_length-le}
 use Rattle.wire.specs.Lent.{copied}
 use Rattle.wire.proofs.Stores.{copied_all}
 use Rattle.frame.proofs.Laws.{bytes_length}

@@ -2,10 +2,8 @@
 use Prim.Native.Nat.{ℕ}
 use mathlib.Core.Path.{◌≡◌, sym, ap, ◌∙◌}
 use mathlib.Core.Bool.{Bool, cond}
-use mathlib.Core.Logic.{⊎_elim}
 use native.Mathlib.Omega.{arith}
 use lib.Dec.{eqb}
-use borrow.Author.Rules.{rules}
 use borrow.Author.Tests.{eq-eqb, ne_eqb}
 use Rattle.message.proofs.reject_of.Goals as goal
 use Rattle.message.proofs.reject_of.Goals.{then-reason-eq2, else-reason-eq2}
@@ -17,8 +15,8 @@ chosen c =
     let a = c.args in
     let byte : Bool → ℕ = λ two. cond two a.h.ptype a.h.stype in
     elim c.if-reason-eq2.branch [
-      then-reason-eq2 way ↦ way.byte2-is ∙ ap byte (sym (eq-eqb a.reason 2 (omega arith)))
-    | else-reason-eq2 way ↦ way.byte2-is ∙ ap byte (sym (ne_eqb a.reason 2 way.if-reason-eq2.false))
+      | then-reason-eq2 way ↦ way.byte2-is ∙ ap byte (sym (eq-eqb a.reason 2 (omega arith)))
+      | else-reason-eq2 way ↦ way.byte2-is ∙ ap byte (sym (ne_eqb a.reason 2 way.if-reason-eq2.false))
     ]
 
 pub returns : goal.returns

@@ -1,5 +1,4 @@
 -- Each kind of text is written by the same call, which promises the frame of the text that it is given; and that text is the message's.
-use borrow.Author.Rules.{rules}
 use Prim.Native.Nat.{ℕ}
 use mathlib.Core.Path.{◌≡◌, refl, sym}
 use mathlib.Core.List.{List}

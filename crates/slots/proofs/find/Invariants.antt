@@ -1,11 +1,8 @@
 -- The invariant: the search comes to the place i and, in the slots from there on, as far as it does.
 use Prim.Native.Nat.{◌+◌, ◌-◌, ◌≤◌}
-use mathlib.Core.Path.{◌≡◌, sym, ◌∙◌}
-use native.Mathlib.Omega.{arith}
-use borrow.Author.Rules.{rules}
+use mathlib.Core.Path.{◌≡◌}
 use lib.ListN.{drop}
-use Rattle.slots.specs.Slots.{free, passes, found_at}
-use Rattle.wire.proofs.Search.{first_here, first_next, first_end}
+use Rattle.slots.specs.Slots.{found_at}
 use Rattle.slots.proofs.find.Given as goal
 
 abbrev pub invariant-loop-i : goal.invariant-loop-i

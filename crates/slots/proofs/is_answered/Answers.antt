@@ -1,6 +1,5 @@
 -- The definition asks the same tests.
 use native.Mathlib.Omega.{arith}
-use borrow.Author.Rules.{rules}
 use borrow.Author.Tests.{eq-eqb, ne_eqb}
 use Rattle.slots.specs.Slots.{passes}
 use Rattle.slots.proofs.is_answered.Goals as goal

@@ -1,5 +1,4 @@
 -- The definition goes by the same four questions.
-use borrow.Author.Rules.{rules}
 use Rattle.slots.specs.Slots.{passes}
 use Rattle.slots.proofs.is_match.Goals as goal
 

@@ -1,5 +1,4 @@
 -- The definition asks the same two tests.
-use borrow.Author.Rules.{rules}
 use Rattle.slots.proofs.is_running.Goals as goal
 
 pub returns-then-t : goal.returns-then-t

@@ -1,5 +1,4 @@
 -- The slot that is repeated is the free one.
-use borrow.Author.Rules.{rules}
 use Rattle.slots.proofs.no_slots.Goals as goal
 
 pub returns : goal.returns

@@ -1,7 +1,6 @@
 -- A store past the list changes nothing.
 use mathlib.Core.Path.{sym}
 use native.Mathlib.Omega.{arith}
-use borrow.Author.Rules.{rules}
 use lib.Seq.{set_out}
 use Rattle.slots.proofs.with_slot.Goals as goal
 

@@ -1,5 +1,4 @@
 -- Each part is changed by a call that promises it.
-use borrow.Author.Rules.{rules}
 use Rattle.state.proofs.close.Goals as goal
 
 pub returns : goal.returns

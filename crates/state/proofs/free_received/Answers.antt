@@ -1,5 +1,4 @@
 -- Each part is built by a call that promises it.
-use borrow.Author.Rules.{rules}
 use Rattle.state.proofs.free_received.Goals as goal
 
 pub returns : goal.returns

@@ -2,7 +2,6 @@
 use borrow.Author.Tests.{le-leb, lt-leb}
 use Rattle.state.specs.State.{made_of}
 use native.Mathlib.Omega.{arith}
-use borrow.Author.Rules.{rules}
 use Rattle.state.proofs.new_session.Goals as goal
 
 pub returns-then-id-le32767 : goal.returns-then-id-le32767

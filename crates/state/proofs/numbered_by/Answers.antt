@@ -1,5 +1,4 @@
 -- The next own number is the one that one_more promises.
-use borrow.Author.Rules.{rules}
 use Rattle.state.proofs.numbered_by.Goals as goal
 
 pub returns : goal.returns

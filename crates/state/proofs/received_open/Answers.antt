@@ -1,5 +1,4 @@
 -- A slot is found, as the definition asks.
-use borrow.Author.Rules.{rules}
 use Rattle.state.proofs.received_open.Goals as goal
 
 pub returns : goal.returns

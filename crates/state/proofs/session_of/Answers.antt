@@ -1,6 +1,5 @@
 -- The slots and the linktest are those that are promised, and the other parts are written as they are defined.
 use Rattle.state.specs.State.{session_of}
-use borrow.Author.Rules.{rules}
 use Rattle.state.proofs.session_of.Goals as goal
 
 pub returns : goal.returns
