@@ -1,0 +1,21 @@
+-- The rest of the piece, listed behind the place, stays the whole piece listed into the output.
+use borrow.Author.Rules.{rules}
+use Prim.Native.Nat.{◌-◌, ◌≤◌}
+use mathlib.Core.Path.{◌≡◌, refl, ◌∙◌}
+use native.Mathlib.Omega.{arith}
+use lib.ListN.{length, drop}
+use borrow.Author.Tests.{leb-true, leb-false}
+use Rattle.lines.proofs.Stored.{Stored, stored, kept}
+use Rattle.listing.specs.Listing.{lines_of}
+use Rattle.listing.specs.Piece.{run}
+use Rattle.listing.proofs.Short.{told_short}
+use Rattle.listing.proofs.Runs.{Joined, joined_first, joined_next, joined_last, run_full, run_end}
+use Rattle.listing.proofs.list.Given as goal
+
+abbrev pub invariant-loop-i : goal.invariant-loop-i
+invariant-loop-i l =
+    (length l.out ≡ length l.initial.out) × (l.i ≤ length l.piece) × (l.at ≤ length l.initial.out)
+    × Joined (run l.initial.state (length l.initial.out) l.piece) l.initial.out (run l.state (length l.initial.out - l.at) (drop l.i l.piece)) l.out l.i l.at
+
+abbrev pub decreases-loop-i : goal.decreases-loop-i
+decreases-loop-i l = length l.piece - l.i
