@@ -1,3 +1,5 @@
+#![tactic(auto)]
+
 ghost use Rattle.std.specs.Prelude.{◌≡◌, true};
 ghost use Rattle.reader.specs.Feed.{allows};
 ghost use Rattle.capture.specs.Capture.{told, one_more, with_frames, with_text, fresh_lister, refused_by, item_at};

@@ -1,3 +1,5 @@
+#![tactic(auto)]
+
 ghost use Rattle.std.specs.Prelude.{◌≡◌, ◌+◌, ◌*◌, ◌/◌, ◌^◌, eqb, leb};
 ghost use Rattle.levels.specs.Levels.{stack};
 ghost use Rattle.follow.specs.Fits.{alone_at16, gap, fits_items, leads, lowest, holds_members, fits_list, fits_plain, fits_lengths};

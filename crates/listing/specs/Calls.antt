@@ -1,5 +1,5 @@
 -- Calls of the lister one behind another, each with any piece and an output of any room; bytes that one leaves may come again in a later one.
-use Rattle.std.specs.Prelude.{ℕ, ◌+◌, List, [], ◌∷◌, ◌++◌, take}
+use Rattle.std.specs.Prelude.{ℕ, List, [], ◌∷◌, ◌++◌, take}
 use Rattle.listing.specs.Listing.{Printed, printed, behind}
 use Rattle.listing.specs.Piece.{Run, run}
 use Rattle.capture.specs.declared.Lister.{Lister}

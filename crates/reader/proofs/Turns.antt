@@ -17,12 +17,12 @@ use Rattle.follow.proofs.Follow.{AfterContent}
 use Rattle.follow.proofs.Sizes.{content_fill}
 use Rattle.reader.specs.State.{State, state, state_of, reader_of}
 use Rattle.reader.specs.Step.{content_from, at_content, step_at, step}
-use Rattle.reader.specs.Feed.{status_at, status, after, eat}
-use Rattle.reader.specs.Items.{is_item, shown_at, shown, reached, met_more, met, seek}
+use Rattle.reader.specs.Feed.{status, after, eat}
+use Rattle.reader.specs.Items.{is_item, shown, reached, met, seek}
 use Rattle.reader.proofs.Rest.{RestAt, Live}
 use Rattle.reader.specs.Asked.{On, Low, Turned}
 use Rattle.reader.specs.declared.Phase.{Phase}
-use Rattle.reader.specs.declared.Phase.TheVariants.{Format, Length, Content, Refused}
+use Rattle.reader.specs.declared.Phase.TheVariants.{Content}
 use Rattle.reader.specs.declared.Reader.{Reader}
 use Rattle.reader.specs.declared.Answer.{Answer}
 use Rattle.reader.specs.declared.Answer.TheVariants.{More, Complete, Refusal}

@@ -1,3 +1,5 @@
+#![tactic(auto)]
+
 ghost use Rattle.std.specs.Prelude.{◌≡◌, true, ◌+◌, ◌*◌, ◌-◌, ◌^◌, ◌≤◌, ◌<◌, length};
 ghost use Rattle.levels.specs.Levels.{stack, Clean};
 ghost use Rattle.reader.specs.State.{state, refused, fresh, state_of, reader_in, reader_of};

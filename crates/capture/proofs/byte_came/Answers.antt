@@ -1,5 +1,5 @@
 -- A lister that has stopped gives nothing; another settles, and feeds the byte.
-use Rattle.std.proofs.Common.{sym, ◌∙◌, rules}
+use Rattle.std.proofs.Common.{sym, ◌∙◌}
 use Rattle.capture.proofs.Answered.{stopped_as, going_as}
 use Rattle.capture.proofs.byte_came.Goals as goal
 

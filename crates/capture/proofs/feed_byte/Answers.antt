@@ -1,5 +1,5 @@
 -- Each arm is the definition's case of what the frame reader answered.
-use Rattle.std.proofs.Common.{sym, ◌∙◌, rules}
+use Rattle.std.proofs.Common.{sym, ◌∙◌}
 use Rattle.capture.proofs.Answered.{fed_as}
 use Rattle.capture.proofs.feed_byte.Goals as goal
 

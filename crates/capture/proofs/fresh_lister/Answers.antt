@@ -1,6 +1,5 @@
 -- Both readers are fresh ones.
 use Rattle.capture.specs.Capture.{fresh_lister}
-use Rattle.std.proofs.Common.{rules}
 use Rattle.capture.proofs.fresh_lister.Goals as goal
 
 pub returns : goal.returns

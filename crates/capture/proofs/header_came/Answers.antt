@@ -1,5 +1,5 @@
 -- The M line is first; behind it each arm is the definition's case of what the fresh text reader is.
-use Rattle.std.proofs.Common.{◌≡◌, true, false, sym, ◌∙◌, rules}
+use Rattle.std.proofs.Common.{◌≡◌, true, false, sym, ◌∙◌}
 use Rattle.reader.specs.declared.Answer.{Answer}
 use Rattle.reader.specs.declared.Answer.TheVariants.{More, Complete, Refusal}
 use Rattle.lines.specs.declared.Line.TheVariants.{Nothing, Message}

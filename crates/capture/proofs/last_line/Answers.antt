@@ -1,5 +1,5 @@
 -- Behind an X line there is nothing; else the lister settles, and the frame reader's end decides.
-use Rattle.std.proofs.Common.{sym, ◌∙◌, rules}
+use Rattle.std.proofs.Common.{sym, ◌∙◌}
 use Rattle.capture.proofs.Answered.{last_none, last_as}
 use Rattle.capture.proofs.last_line.Goals as goal
 

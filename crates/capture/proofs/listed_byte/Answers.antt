@@ -1,5 +1,5 @@
 -- Each arm is the definition's case of what the text reader answered.
-use Rattle.std.proofs.Common.{sym, ap, ◌∙◌, subst, rules}
+use Rattle.std.proofs.Common.{sym, ap, ◌∙◌, subst}
 use Rattle.reader.specs.declared.Answer.{Answer}
 use Rattle.reader.specs.declared.Fed.{Fed}
 use Rattle.capture.proofs.Texts.{Taken, taken_allowed}

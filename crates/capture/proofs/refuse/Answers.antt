@@ -1,6 +1,5 @@
 -- The line is X, and the listing has stopped.
 use Rattle.capture.specs.Capture.{refused_by}
-use Rattle.std.proofs.Common.{rules}
 use Rattle.capture.proofs.refuse.Goals as goal
 
 pub returns : goal.returns

@@ -1,5 +1,5 @@
 -- Each arm is the definition's case of what the frame reader answered to no byte.
-use Rattle.std.proofs.Common.{◌≡◌, sym, ◌∙◌, rules}
+use Rattle.std.proofs.Common.{◌≡◌, sym, ◌∙◌}
 use Rattle.capture.specs.Capture.{one_more, with_frames}
 use Rattle.capture.proofs.Answered.{settled_as}
 use Rattle.capture.proofs.settle.Goals as goal

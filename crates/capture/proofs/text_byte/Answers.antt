@@ -1,5 +1,5 @@
 -- A text that is not listed gives nothing.
-use Rattle.std.proofs.Common.{sym, ◌∙◌, rules}
+use Rattle.std.proofs.Common.{sym, ◌∙◌}
 use Rattle.capture.proofs.Answered.{unlisted_as}
 use Rattle.capture.proofs.text_byte.Goals as goal
 

@@ -1,7 +1,6 @@
 -- The tests are the definition's in its order, the last one by a quotient, which cannot overflow.
 use mathlib.Core.Path.{◌≡◌, sym, ◌∙◌}
 use mathlib.Core.Bool.{true, false}
-use borrow.Author.Rules.{rules}
 use borrow.Author.Tests.{eq-eqb, ne_eqb}
 use Rattle.levels.specs.Levels.{sum_of, stack}
 use Rattle.follow.specs.Fits.{gap, fits_items}

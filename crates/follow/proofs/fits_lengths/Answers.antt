@@ -1,5 +1,4 @@
 -- The code decides, as in the definition.
-use borrow.Author.Rules.{rules}
 use borrow.Author.Tests.{eq-eqb, ne_eqb}
 use Rattle.follow.specs.Fits.{fits_lengths}
 use Rattle.follow.proofs.fits_lengths.Goals as goal

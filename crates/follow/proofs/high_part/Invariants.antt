@@ -1,11 +1,6 @@
 -- What is left, without the bytes still to leave off, stays the number without all of them; of zero nothing is left.
-use borrow.Author.Rules.{rules}
-use Prim.Native.Nat.{ℕ, suc, ◌+◌, ◌-◌, ◌/◌, ◌^◌, ◌≤◌}
-use mathlib.Core.Path.{◌≡◌, sym, ap, ◌∙◌}
-use native.Mathlib.Nat.{zero-div, div-one}
-use native.Mathlib.Omega.{arith}
-use borrow.Author.Tests.{ltb-false}
-use Rattle.follow.proofs.Tests.{part_more}
+use Prim.Native.Nat.{◌-◌, ◌/◌, ◌^◌, ◌≤◌}
+use mathlib.Core.Path.{◌≡◌}
 use Rattle.follow.proofs.high_part.Given as goal
 
 abbrev pub invariant-loop-i : goal.invariant-loop-i

@@ -1,7 +1,6 @@
 -- The test is the definition's, by a quotient, which cannot overflow.
 use Prim.Native.Nat.{◌+◌, ◌*◌, ◌^◌}
 use native.Mathlib.Omega.{arith}
-use borrow.Author.Rules.{rules}
 use borrow.Author.Tests.{lt-leb}
 use Rattle.follow.proofs.Tests.{holds}
 use Rattle.follow.proofs.holds_content.Goals as goal

@@ -1,6 +1,5 @@
 -- The sum decides, then the count at depth 16.
 use mathlib.Core.Path.{◌≡◌, sym, ◌∙◌}
-use borrow.Author.Rules.{rules}
 use borrow.Author.Tests.{eq-eqb, ne_eqb}
 use Rattle.levels.specs.Levels.{stack, total}
 use Rattle.follow.specs.Fits.{alone_at16}

@@ -1,5 +1,4 @@
 -- The form decides, then the bytes left, then whether one item is alone at depth 16.
-use borrow.Author.Rules.{rules}
 use borrow.Author.Tests.{eq-eqb, ne_eqb}
 use Rattle.follow.specs.Fits.{gap}
 use Rattle.follow.proofs.is_gap.Goals as goal

@@ -1,5 +1,4 @@
 -- The form decides.
-use borrow.Author.Rules.{rules}
 use Rattle.follow.specs.Fits.{leads}
 use Rattle.follow.proofs.may_lead.Goals as goal
 

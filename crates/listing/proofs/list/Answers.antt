@@ -1,15 +1,13 @@
 -- The rest of the piece, listed behind the place, stays the whole piece listed into the output.
-use borrow.Author.Rules.{rules}
 use Prim.Native.Nat.{◌-◌, ◌≤◌}
-use mathlib.Core.Path.{◌≡◌, refl, ◌∙◌}
+use mathlib.Core.Path.{refl, ◌∙◌}
 use native.Mathlib.Omega.{arith}
-use lib.ListN.{length, drop}
+use lib.ListN.{length}
 use borrow.Author.Tests.{leb-true, leb-false}
 use Rattle.lines.proofs.Stored.{Stored, stored, kept}
 use Rattle.listing.specs.Listing.{lines_of}
-use Rattle.listing.specs.Piece.{run}
 use Rattle.listing.proofs.Short.{told_short}
-use Rattle.listing.proofs.Runs.{Joined, joined_first, joined_next, joined_last, run_full, run_end}
+use Rattle.listing.proofs.Runs.{joined_first, joined_next, joined_last, run_full, run_end}
 use Rattle.listing.proofs.list.Goals as goal
 
 pub loop-i-init : goal.loop-i-init

@@ -1,15 +1,9 @@
 -- The rest of the piece, listed behind the place, stays the whole piece listed into the output.
-use borrow.Author.Rules.{rules}
 use Prim.Native.Nat.{◌-◌, ◌≤◌}
-use mathlib.Core.Path.{◌≡◌, refl, ◌∙◌}
-use native.Mathlib.Omega.{arith}
+use mathlib.Core.Path.{◌≡◌}
 use lib.ListN.{length, drop}
-use borrow.Author.Tests.{leb-true, leb-false}
-use Rattle.lines.proofs.Stored.{Stored, stored, kept}
-use Rattle.listing.specs.Listing.{lines_of}
 use Rattle.listing.specs.Piece.{run}
-use Rattle.listing.proofs.Short.{told_short}
-use Rattle.listing.proofs.Runs.{Joined, joined_first, joined_next, joined_last, run_full, run_end}
+use Rattle.listing.proofs.Runs.{Joined}
 use Rattle.listing.proofs.list.Given as goal
 
 abbrev pub invariant-loop-i : goal.invariant-loop-i

@@ -3,7 +3,6 @@ use native.Mathlib.Omega.{arith}
 use lib.ListN.{length-append}
 use Rattle.lines.specs.Text.{line_text}
 use Rattle.lines.proofs.Stored.{Stored, stored, kept, then}
-use borrow.Author.Rules.{rules}
 use Rattle.listing.proofs.put_told.Goals as goal
 
 pub put_line-a-requires : goal.put_line-a-requires

@@ -1,7 +1,6 @@
 -- The tests are the definition's in its order.
 use mathlib.Core.Path.{◌≡◌, sym, ◌∙◌}
 use mathlib.Core.Bool.{true, false}
-use borrow.Author.Rules.{rules}
 use borrow.Author.Tests.{le-leb, lt-leb}
 use Rattle.item.specs.Code.{kind_of, is_plain}
 use Rattle.reader.specs.Feed.{allows_phase}

@@ -1,5 +1,4 @@
 -- With no level open the definition asks no count, else that of the innermost level, which is the top.
-use borrow.Author.Rules.{rules}
 use borrow.Author.Tests.{lt-ltb, le-ltb}
 use Rattle.reader.specs.Feed.{allows_phase}
 use Rattle.reader.proofs.Tests.{awaits_none, awaits_top}

@@ -9,7 +9,6 @@ use Rattle.levels.specs.declared.Levels.{Levels}
 use Rattle.reader.specs.Feed.{allows_phase}
 use Rattle.reader.specs.declared.Phase.{Phase}
 use Rattle.reader.specs.declared.Phase.TheVariants.{Format, Length, Content, Refused}
-use Rattle.reader.specs.declared.Reader.{Reader}
 use Rattle.reader.proofs.Allowed.{Framed, framed, allows_both, allows_first}
 use Rattle.reader.proofs.allows_state.Goals as goal
 

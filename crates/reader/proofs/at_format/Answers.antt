@@ -2,7 +2,6 @@
 use Prim.Native.Nat.{◌-◌, ◌/◌, ◌%◌}
 use mathlib.Core.Bool.{Bool}
 use mathlib.Core.Path.{◌≡◌, ap, sym, ◌∙◌}
-use borrow.Author.Rules.{rules}
 use borrow.Author.Tests.{eq-eqb, ne_eqb}
 use Rattle.levels.specs.Levels.{stack, began}
 use Rattle.levels.proofs.Laws.{begun_clean, begun_stack}

@@ -1,8 +1,6 @@
 -- Each test is the definition's.
 use mathlib.Core.Bool.{true, false}
-use mathlib.Core.Logic.{⊎_elim}
 use mathlib.Core.Path.{◌≡◌, sym, ◌∙◌}
-use borrow.Author.Rules.{rules}
 use borrow.Author.Tests.{lt-ltb, le-ltb, eq-eqb, ne_eqb}
 use Rattle.follow.specs.Fits.{leads}
 use Rattle.reader.specs.Step.{at_length}
@@ -26,12 +24,12 @@ returns-then-j-gt0 c =
     let m = c in
     let p = lt-ltb _ _ m.if-j-gt0.true in
     elim c.if-may_lead.branch [
-      then-may_lead+else-fits_lengths w ↦
-        let l : leads _ _ ≡ true = sym m.may_lead.ensures ∙ w.if-may_lead.true in
-        rw (p, l, ← w.fits_lengths.ensures, w.if-fits_lengths.false) c.refusal.ensures
-    | else-may_lead w ↦
-        let l : leads _ _ ≡ false = sym m.may_lead.ensures ∙ w.if-may_lead.false in
-        rw (p, l) c.refusal.ensures
+      | then-may_lead+else-fits_lengths w ↦
+          let l : leads _ _ ≡ true = sym m.may_lead.ensures ∙ w.if-may_lead.true in
+          rw (p, l, ← w.fits_lengths.ensures, w.if-fits_lengths.false) c.refusal.ensures
+      | else-may_lead w ↦
+          let l : leads _ _ ≡ false = sym m.may_lead.ensures ∙ w.if-may_lead.false in
+          rw (p, l) c.refusal.ensures
     ]
 
 pub returns-then-c-eq-L : goal.returns-then-c-eq-L

@@ -1,8 +1,6 @@
 -- Each test is the definition's.
 use mathlib.Core.Bool.{true}
-use mathlib.Core.Logic.{⊎_elim}
 use mathlib.Core.Path.{◌≡◌, sym, ◌∙◌}
-use borrow.Author.Rules.{rules}
 use borrow.Author.Tests.{le-leb, lt-leb}
 use Rattle.item.specs.Code.{allowed}
 use Rattle.reader.specs.Step.{at_plain}
@@ -22,8 +20,8 @@ returns-then-is_allowed c =
     let t = c in
     let e : allowed _ _ ≡ true = sym t.is_allowed.ensures ∙ t.if-is_allowed.true in
     elim c.if-v-left.branch [
-      then-v-left+else-fits_items w ↦ rw (e, le-leb _ _ w.if-v-left.true, ← w.fits_items.ensures, w.if-fits_items.false) c.refusal.ensures
-    | else-v-left w ↦ rw (e, lt-leb _ _ w.if-v-left.false) c.refusal.ensures
+      | then-v-left+else-fits_items w ↦ rw (e, le-leb _ _ w.if-v-left.true, ← w.fits_items.ensures, w.if-fits_items.false) c.refusal.ensures
+      | else-v-left w ↦ rw (e, lt-leb _ _ w.if-v-left.false) c.refusal.ensures
     ]
 
 pub returns : goal.returns

@@ -1,5 +1,4 @@
 -- One byte is a step.
-use borrow.Author.Rules.{rules}
 use native.Mathlib.Omega.{arith}
 use Rattle.reader.proofs.Eats.{ready}
 use Rattle.reader.proofs.Turns.{byte_turned}

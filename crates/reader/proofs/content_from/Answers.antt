@@ -1,5 +1,4 @@
 -- The test is the definition's; a clean reader's levels are those of its stack.
-use borrow.Author.Rules.{rules}
 use borrow.Author.Tests.{eq-eqb, ne_eqb}
 use Rattle.reader.proofs.Bytes.{reader_over}
 use Rattle.reader.proofs.content_from.Goals as goal

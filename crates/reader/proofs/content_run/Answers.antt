@@ -1,5 +1,4 @@
 -- All that is there, where no byte is above the limit; else the bytes before the first that is.
-use borrow.Author.Rules.{rules}
 use Prim.Native.Nat.{◌+◌}
 use native.Mathlib.Omega.{arith}
 use Rattle.reader.proofs.content_run.Goals as goal

@@ -1,12 +1,10 @@
 -- The bytes of a piece that are left are eaten from the present reader as the whole piece is from the first: a turn is a step of the definition.
 use borrow.Author.Rules.{rules}
-use Prim.Native.Nat.{◌-◌, ◌≤◌}
 use mathlib.Core.Path.{◌≡◌, refl, sym, ap, ◌∙◌}
 use native.Mathlib.Omega.{arith}
-use lib.ListN.{length, drop}
+use lib.ListN.{length}
 use Rattle.reader.specs.State.{state_of}
-use Rattle.reader.specs.Feed.{fed, eat}
-use Rattle.reader.specs.Asked.{On}
+use Rattle.reader.specs.Feed.{fed}
 use Rattle.reader.specs.declared.Answer.TheVariants.{More, Complete, Refusal}
 use Rattle.reader.proofs.Eats.{ready, on_holds, Turned, turned, eat_end, after_more, after_complete, after_refusal}
 use Rattle.reader.proofs.eat_all.Goals as goal

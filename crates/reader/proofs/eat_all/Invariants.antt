@@ -1,14 +1,10 @@
 -- The bytes of a piece that are left are eaten from the present reader as the whole piece is from the first: a turn is a step of the definition.
-use borrow.Author.Rules.{rules}
 use Prim.Native.Nat.{◌-◌, ◌≤◌}
-use mathlib.Core.Path.{◌≡◌, refl, sym, ap, ◌∙◌}
-use native.Mathlib.Omega.{arith}
+use mathlib.Core.Path.{◌≡◌}
 use lib.ListN.{length, drop}
 use Rattle.reader.specs.State.{state_of}
-use Rattle.reader.specs.Feed.{fed, eat}
+use Rattle.reader.specs.Feed.{eat}
 use Rattle.reader.specs.Asked.{On}
-use Rattle.reader.specs.declared.Answer.TheVariants.{More, Complete, Refusal}
-use Rattle.reader.proofs.Eats.{ready, on_holds, Turned, turned, eat_end, after_more, after_complete, after_refusal}
 use Rattle.reader.proofs.eat_all.Given as goal
 
 abbrev pub invariant-loop-i : goal.invariant-loop-i

@@ -1,5 +1,4 @@
 -- Each arm's kind has the arm's answer.
-use borrow.Author.Rules.{rules}
 use mathlib.Core.Path.{sym, ap, ◌∙◌}
 use Rattle.reader.specs.Step.{is_known_kind, known}
 use Rattle.reader.proofs.is_known.Goals as goal

@@ -1,5 +1,4 @@
 -- Each arm's kind has the arm's answer.
-use borrow.Author.Rules.{rules}
 use mathlib.Core.Path.{sym, ap, ◌∙◌}
 use Rattle.item.specs.Code.{is_plain}
 use Rattle.reader.proofs.is_plain.Goals as goal

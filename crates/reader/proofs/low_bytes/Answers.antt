@@ -1,7 +1,5 @@
 -- The bytes before the present one are at most the limit.
-use Prim.Native.Nat.{◌+◌, ◌-◌, ◌≤◌}
 use native.Mathlib.Omega.{arith}
-use Rattle.reader.specs.Asked.{Low}
 use Rattle.reader.proofs.Turns.{low_more}
 use Rattle.reader.proofs.low_bytes.Goals as goal
 

@@ -1,8 +1,6 @@
 -- The bytes before the present one are at most the limit.
-use Prim.Native.Nat.{◌+◌, ◌-◌, ◌≤◌}
-use native.Mathlib.Omega.{arith}
+use Prim.Native.Nat.{◌-◌, ◌≤◌}
 use Rattle.reader.specs.Asked.{Low}
-use Rattle.reader.proofs.Turns.{low_more}
 use Rattle.reader.proofs.low_bytes.Given as goal
 
 abbrev pub invariant-loop-q : goal.invariant-loop-q

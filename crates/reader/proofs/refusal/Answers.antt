@@ -1,5 +1,4 @@
 -- The levels of a refused reader are those of no count.
-use borrow.Author.Rules.{rules}
 use Rattle.reader.proofs.refusal.Goals as goal
 
 pub returns : goal.returns

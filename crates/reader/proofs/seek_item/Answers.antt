@@ -1,12 +1,8 @@
 -- The bytes of a piece that are left are searched from the present reader as the whole piece is from the first.
-use borrow.Author.Rules.{rules}
-use Prim.Native.Nat.{◌-◌, ◌≤◌}
-use mathlib.Core.Path.{◌≡◌, refl, sym, ap, ◌∙◌}
+use mathlib.Core.Path.{refl, sym, ap, ◌∙◌}
 use native.Mathlib.Omega.{arith}
-use lib.ListN.{length, drop}
 use Rattle.reader.specs.State.{state_of}
-use Rattle.reader.specs.Items.{reached, seek}
-use Rattle.reader.specs.Asked.{On}
+use Rattle.reader.specs.Items.{reached}
 use Rattle.reader.specs.declared.Answer.TheVariants.{More, Complete, Refusal}
 use Rattle.reader.specs.declared.Found.TheVariants.{Nothing}
 use Rattle.reader.proofs.Eats.{ready, on_holds}

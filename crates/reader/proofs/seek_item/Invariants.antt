@@ -1,16 +1,10 @@
 -- The bytes of a piece that are left are searched from the present reader as the whole piece is from the first.
-use borrow.Author.Rules.{rules}
 use Prim.Native.Nat.{◌-◌, ◌≤◌}
-use mathlib.Core.Path.{◌≡◌, refl, sym, ap, ◌∙◌}
-use native.Mathlib.Omega.{arith}
+use mathlib.Core.Path.{◌≡◌}
 use lib.ListN.{length, drop}
 use Rattle.reader.specs.State.{state_of}
-use Rattle.reader.specs.Items.{reached, seek}
+use Rattle.reader.specs.Items.{seek}
 use Rattle.reader.specs.Asked.{On}
-use Rattle.reader.specs.declared.Answer.TheVariants.{More, Complete, Refusal}
-use Rattle.reader.specs.declared.Found.TheVariants.{Nothing}
-use Rattle.reader.proofs.Eats.{ready, on_holds}
-use Rattle.reader.proofs.Turns.{seek_end, SeeksOn, seeks_on, met_nothing, met_item, met_complete, met_refusal}
 use Rattle.reader.proofs.seek_item.Given as goal
 
 abbrev pub invariant-loop-i : goal.invariant-loop-i

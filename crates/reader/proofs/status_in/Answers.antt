@@ -1,5 +1,4 @@
 -- The phase decides, and with a format byte next whether a level is open.
-use borrow.Author.Rules.{rules}
 use mathlib.Core.Path.{◌≡◌, sym, ap, ◌∙◌}
 use Rattle.reader.specs.Feed.{status_at, status}
 use Rattle.reader.specs.State.{State, state_of}

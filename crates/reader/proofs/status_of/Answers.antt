@@ -1,5 +1,4 @@
 -- The list decides, and then the phase.
-use borrow.Author.Rules.{rules}
 use mathlib.Core.Path.{◌≡◌, sym, ◌∙◌}
 use mathlib.Core.Bool.{true, false}
 use Rattle.reader.specs.Feed.{allows, status_of}

@@ -1,5 +1,4 @@
 -- The phase decides, as in the definition; a length so far leaves room for a byte more.
-use borrow.Author.Rules.{rules}
 use mathlib.Core.Path.{subst}
 use native.Mathlib.Omega.{arith}
 use Rattle.reader.specs.Step.{step_at}

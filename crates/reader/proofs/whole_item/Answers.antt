@@ -1,5 +1,4 @@
 -- Closing the levels of a clean reader leaves its stack.
-use borrow.Author.Rules.{rules}
 use mathlib.Core.Path.{◌∙◌}
 use Rattle.levels.proofs.Laws.{closed_clean}
 use Rattle.reader.proofs.Bytes.{reader_over}

@@ -1,5 +1,4 @@
 -- A list's own bytes end with its length bytes, any other row's with its content.
-use borrow.Author.Rules.{rules}
 use native.Mathlib.Omega.{arith}
 use borrow.Author.Tests.{eq-eqb, ne_eqb}
 use Rattle.rows.specs.Row.{content_size}

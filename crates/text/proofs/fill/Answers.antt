@@ -1,7 +1,6 @@
 -- The rows written so far, with those of the walk that is left behind them, are the rows of the whole text.
-use borrow.Author.Rules.{rules}
-use Prim.Native.Nat.{ℕ, ◌+◌, ◌*◌, ◌-◌, ◌≤◌}
-use mathlib.Core.Path.{◌≡◌, refl, sym, ap, ◌∙◌}
+use Prim.Native.Nat.{ℕ, ◌+◌}
+use mathlib.Core.Path.{refl, sym, ap, ◌∙◌}
 use mathlib.Core.List.{List, [], ◌∷◌}
 use native.Mathlib.Omega.{arith}
 use lib.ListN.{length, drop}
@@ -9,7 +8,6 @@ use lib.Seq.{sets, length-sets}
 use Rattle.wire.proofs.Stores.{sets_append}
 use Rattle.rows.specs.Row.{table_of}
 use Rattle.rows.specs.Rows.{rows_from, rows_in}
-use Rattle.rows.specs.Asked.{Ends}
 use Rattle.rows.specs.declared.Row.{Row}
 use Rattle.rows.proofs.Trees.{rows_fewer}
 use Rattle.text.proofs.Turn.{Turn, turn, rows_end}

@@ -1,18 +1,11 @@
 -- The rows written so far, with those of the walk that is left behind them, are the rows of the whole text.
-use borrow.Author.Rules.{rules}
-use Prim.Native.Nat.{ℕ, ◌+◌, ◌*◌, ◌-◌, ◌≤◌}
-use mathlib.Core.Path.{◌≡◌, refl, sym, ap, ◌∙◌}
-use mathlib.Core.List.{List, [], ◌∷◌}
-use native.Mathlib.Omega.{arith}
+use Prim.Native.Nat.{◌+◌, ◌*◌, ◌-◌, ◌≤◌}
+use mathlib.Core.Path.{◌≡◌}
 use lib.ListN.{length, drop}
-use lib.Seq.{sets, length-sets}
-use Rattle.wire.proofs.Stores.{sets_append}
+use lib.Seq.{sets}
 use Rattle.rows.specs.Row.{table_of}
 use Rattle.rows.specs.Rows.{rows_from, rows_in}
 use Rattle.rows.specs.Asked.{Ends}
-use Rattle.rows.specs.declared.Row.{Row}
-use Rattle.rows.proofs.Trees.{rows_fewer}
-use Rattle.text.proofs.Turn.{Turn, turn, rows_end}
 use Rattle.text.proofs.fill.Given as goal
 
 abbrev pub invariant-loop-p : goal.invariant-loop-p

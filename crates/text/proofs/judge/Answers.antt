@@ -1,5 +1,4 @@
 -- What is promised of a text asked to be good.
-use borrow.Author.Rules.{rules}
 use Rattle.text.proofs.judge.Goals as goal
 
 pub returns : goal.returns

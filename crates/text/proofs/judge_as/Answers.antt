@@ -1,5 +1,4 @@
 -- The number of what the feed of the whole text answers, by the answer's case.
-use borrow.Author.Rules.{rules}
 use Rattle.text.proofs.Judged.{judged_is}
 use Rattle.text.proofs.judge_as.Goals as goal
 

@@ -1,5 +1,4 @@
 -- A text whose number is 0 is good, so that the walk over it is sound.
-use borrow.Author.Rules.{rules}
 use mathlib.Core.Path.{sym, ◌∙◌}
 use borrow.Author.Tests.{eq-eqb, ne_eqb}
 use Rattle.text.specs.Text.{measured_of}

@@ -1,14 +1,10 @@
 -- The rows and the bytes counted so far, and those of the walk that is left, are those of the whole text.
-use borrow.Author.Rules.{rules}
 use Prim.Native.Nat.{◌+◌, ◌-◌, ◌≤◌}
-use mathlib.Core.Path.{◌≡◌, refl, ap, ap₂}
-use native.Mathlib.Omega.{arith}
+use mathlib.Core.Path.{◌≡◌}
 use lib.ListN.{length, drop}
 use Rattle.rows.specs.Row.{size_of}
 use Rattle.rows.specs.Rows.{rows_from, rows_in}
 use Rattle.rows.specs.Asked.{Ends}
-use Rattle.text.specs.declared.Measured.TheVariants.{Are}
-use Rattle.text.proofs.Turn.{Turn, turn, rows_end}
 use Rattle.text.proofs.measure_good.Given as goal
 
 abbrev pub invariant-loop-p : goal.invariant-loop-p

@@ -1,5 +1,4 @@
 -- Three stores, one behind the other, are the run of the row's three numbers.
-use borrow.Author.Rules.{rules}
 use Prim.Native.Nat.{◌+◌, suc}
 use mathlib.Core.Path.{◌≡◌}
 use native.Mathlib.Omega.{arith}

@@ -1,5 +1,4 @@
 -- The number, or 19 where three numbers a row do not fit, or the rows and behind them the table as it was.
-use borrow.Author.Rules.{rules}
 use Prim.Native.Nat.{ℕ, ◌*◌}
 use mathlib.Core.Path.{◌≡◌, refl, sym, ap, ◌∙◌}
 use native.Mathlib.Omega.{arith}

@@ -1,7 +1,5 @@
 -- One item less is awaited, and then a list's members are; the levels that await nothing are left.
-use borrow.Author.Rules.{rules}
 use mathlib.Core.Path.{◌≡◌, sym, ap, ◌∙◌}
-use mathlib.Core.Logic.{⊎_elim}
 use native.Mathlib.Omega.{arith}
 use Rattle.levels.specs.Levels.{levels_of, stack, began, leaving, opened_of, closed_of}
 use Rattle.levels.specs.declared.Levels.{Levels}
@@ -31,8 +29,8 @@ returns c =
     let q = d.requires.clean in
     let e : d.begun-low.result ≡ levels_of (began (stack l)) = d.begun-low.ensures ∙ begun_clean l q in
     let f : levels_behind (stack l) r ≡ leaving (began (stack l)) =
-        elim c.if-code-eq-L.branch [
-          then-code-eq-L+else-length-ne0 w ↦ behind_empty (stack l) r w.if-code-eq-L.true w.if-length-ne0.false
-        | else-code-eq-L w ↦ behind_plain (stack l) r w.if-code-eq-L.false
-        ] in
+    elim c.if-code-eq-L.branch [
+      | then-code-eq-L+else-length-ne0 w ↦ behind_empty (stack l) r w.if-code-eq-L.true w.if-length-ne0.false
+      | else-code-eq-L w ↦ behind_plain (stack l) r w.if-code-eq-L.false
+    ] in
     c.closed.ensures ∙ ap closed_of e ∙ closed_levels (began (stack l)) (began_few (stack l) (stack_few l q)) ∙ ap levels_of (sym f)

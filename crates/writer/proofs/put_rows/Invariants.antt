@@ -1,15 +1,10 @@
 -- The invariant: the texts of the rows from here on, stored from here on, make the same output as all from place 0.
-use Prim.Native.Nat.{ℕ, ◌+◌, ◌-◌, ◌≤◌}
-use mathlib.Core.Path.{◌≡◌, refl, sym, ap, ap₂, ◌∙◌, subst}
-use mathlib.Core.List.{List, ◌∷◌}
-use native.Mathlib.Omega.{arith}
-use lib.ListN.{length, drop, length-append}
-use lib.Seq.{sets, length-sets}
-use Rattle.wire.proofs.Stores.{sets_append}
-use Rattle.rows.specs.declared.Row.{Row}
+use Prim.Native.Nat.{◌+◌, ◌-◌, ◌≤◌}
+use mathlib.Core.Path.{◌≡◌}
+use lib.ListN.{length, drop}
+use lib.Seq.{sets}
 use Rattle.wire.specs.Lists.{Each}
-use Rattle.rows.specs.Row.{rows_of, row_text, text_of}
-use Rattle.rows.proofs.Tables.{rows_more, rows_end}
+use Rattle.rows.specs.Row.{rows_of, text_of}
 use Rattle.rows.specs.Asked.{Fits}
 use Rattle.writer.proofs.put_rows.Given as goal
 

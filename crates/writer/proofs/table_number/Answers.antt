@@ -1,5 +1,4 @@
 -- The two tests are the definition's: a table of whole rows that is not empty has a row.
-use borrow.Author.Rules.{rules}
 use Prim.Native.Nat.{ℕ}
 use mathlib.Core.Path.{◌≡◌, refl, sym, ap, ◌∙◌}
 use mathlib.Core.List.{List, [], ◌∷◌}

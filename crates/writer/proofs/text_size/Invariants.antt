@@ -1,14 +1,9 @@
 -- The invariant: the sizes of the rows passed and of those from here on make the sum; each is at most 5 bytes more than a u32.
-use borrow.Author.Rules.{rules}
-use Prim.Native.Nat.{ℕ, ◌+◌, ◌-◌, ◌≤◌}
-use mathlib.Core.Path.{◌≡◌, refl, ap}
-use mathlib.Core.List.{List}
-use native.Mathlib.Omega.{arith}
-use native.Mathlib.Nat.{zero-add}
-use lib.ListN.{length, get_or, drop}
+use Prim.Native.Nat.{◌+◌, ◌-◌, ◌≤◌}
+use mathlib.Core.Path.{◌≡◌}
+use lib.ListN.{length, drop}
 use Rattle.wire.specs.Longest.{longest}
 use Rattle.rows.specs.Row.{rows_of, size_of}
-use Rattle.rows.proofs.Tables.{row_from, rows_more, rows_end, row_size_most}
 use Rattle.writer.proofs.text_size.Given as goal
 
 abbrev pub invariant-loop-i : goal.invariant-loop-i

@@ -1,5 +1,4 @@
 -- The text's number, 19 and 17 come before anything is stored; then its rows are read and written, which nothing refuses.
-use borrow.Author.Rules.{rules}
 use Prim.Native.Nat.{ℕ}
 use mathlib.Core.Path.{◌≡◌, refl, sym, ◌∙◌}
 use native.Mathlib.Omega.{arith}
