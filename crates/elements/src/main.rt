@@ -6,6 +6,7 @@ use wire::{Bits, Counted, Width};
 
 // file descriptors
 const STDIN: i32 = 0;
+
 const STDOUT: i32 = 1;
 
 // ---- fields out
