@@ -1,18 +1,23 @@
-use bytes::scan;
+#![tactic(auto)]
+
 use element::{Element, Got};
 use hexes::Said;
-use libc::{STDIN_FILENO, STDOUT_FILENO};
 use wire::{Bits, Counted, Width};
+
+// file descriptors
+const STDIN: i32 = 0;
+
+const STDOUT: i32 = 1;
 
 // ---- fields out
 
 fn put(s: &[u8]) {
-    io::write_all(STDOUT_FILENO, s);
+    io::write_all(STDOUT, s);
 }
 
 fn decimal(n: usize) {
     put(b"\t");
-    io::print_decimal(STDOUT_FILENO, n as u64);
+    io::print_decimal(STDOUT, n as u64);
 }
 
 fn digits(s: &[u8]) {
@@ -29,7 +34,7 @@ fn digits(s: &[u8]) {
 // A word, and a number's bits in so many hex digits.
 fn bits(word: &[u8], n: u64, size: usize) {
     put(word);
-    io::print_hex(STDOUT_FILENO, n, size);
+    io::print_hex(STDOUT, n, size);
 }
 
 fn signed_bits(x: i64) -> u64 {
@@ -44,7 +49,7 @@ fn element_fields(e: Element) {
         Element::Signed(x) => bits(b"\tsigned\t", signed_bits(x), 16),
         Element::Unsigned(n) => {
             put(b"\tunsigned\t");
-            io::print_decimal(STDOUT_FILENO, n);
+            io::print_decimal(STDOUT, n);
         }
         Element::F4(x) => bits(b"\tf4\t", element::f4_bits(x) as u64, 8),
         Element::F8(x) => bits(b"\tf8\t", element::f8_bits(x), 16),
@@ -146,7 +151,7 @@ fn line(l: &[u8]) {
 fn lines(input: &[u8]) {
     let mut at: usize = 0;
     while at < input.len() {
-        let end = scan::find(input, at, input.len(), b'\n');
+        let end = records::line_end(input, at);
         line(&input[at..end]);
         if end == input.len() {
             break;
@@ -157,7 +162,7 @@ fn lines(input: &[u8]) {
 
 fn main() {
     let mut input = records::room();
-    let n = io::read_full(STDIN_FILENO, &mut input);
+    let n = io::read_full(STDIN, &mut input);
     if n == 1048576 {
         put(b"too much input\n");
     } else {

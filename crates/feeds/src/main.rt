@@ -1,18 +1,22 @@
-use bytes::scan;
+#![tactic(auto)]
+
 use hexes::Said;
 use item::Form;
-use libc::{STDIN_FILENO, STDOUT_FILENO};
 use reader::{Answer, Phase, Reader};
+
+// file descriptors
+const STDIN: i32 = 0;
+const STDOUT: i32 = 1;
 
 // ---- fields out
 
 fn put(s: &[u8]) {
-    io::write_all(STDOUT_FILENO, s);
+    io::write_all(STDOUT, s);
 }
 
 fn decimal(n: usize) {
     put(b"\t");
-    io::print_decimal(STDOUT_FILENO, n as u64);
+    io::print_decimal(STDOUT, n as u64);
 }
 
 fn status(a: Answer) {
@@ -147,7 +151,7 @@ fn lines(s: &[u8]) {
     let mut r = reader::fresh_reader(Form::Good, 0);
     let mut at: usize = 0;
     while at < s.len() {
-        let end = scan::find(s, at, s.len(), b'\n');
+        let end = records::line_end(s, at);
         r = line(r, &s[at..end]);
         if end == s.len() {
             break;
@@ -158,7 +162,7 @@ fn lines(s: &[u8]) {
 
 fn main() {
     let mut input = records::room();
-    let n = io::read_full(STDIN_FILENO, &mut input);
+    let n = io::read_full(STDIN, &mut input);
     if n == 1048576 {
         put(b"too much input\n");
     } else {

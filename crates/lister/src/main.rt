@@ -1,6 +1,12 @@
 // Lists the captured byte stream on standard input: blocks are read, handed to the library, and what it printed is written.
+#![tactic(auto)]
+
 use capture::Lister;
-use libc::{STDERR_FILENO, STDIN_FILENO, STDOUT_FILENO};
+
+// file descriptors
+const STDIN: i32 = 0;
+const STDOUT: i32 = 1;
+const STDERR: i32 = 2;
 
 // The lister behind a block, and whether to go on: it has not stopped, and what it printed was written.
 #[derive(Clone, Copy)]
@@ -11,7 +17,7 @@ struct Turn {
 
 fn cannot_write() {
     io::write_all(
-        STDERR_FILENO,
+        STDERR,
         b"lister: standard output cannot be written\n",
     );
 }
@@ -26,7 +32,7 @@ fn list_block(l: Lister, block: &[u8]) -> Turn {
         state = r.lister;
         let used = r.used;
         from += r.consumed;
-        if io::write_all(STDOUT_FILENO, &out[0..used]) {} else {
+        if io::write_all(STDOUT, &out[0..used]) {} else {
             cannot_write();
             return Turn {
                 lister: state,
@@ -46,7 +52,7 @@ fn list_end(l: Lister) {
     let mut out = [0u8; 160];
     let line = capture::last_line(l);
     let n = lines::print(line, &mut out);
-    if io::write_all(STDOUT_FILENO, &out[0..n]) {} else {
+    if io::write_all(STDOUT, &out[0..n]) {} else {
         cannot_write();
     }
 }
@@ -57,7 +63,7 @@ fn main() {
     let mut state = capture::fresh_lister();
     let mut blocks = u64::MAX;
     while blocks > 0 {
-        let n = io::read_full(STDIN_FILENO, &mut block);
+        let n = io::read_full(STDIN, &mut block);
         if n == 0 {
             break;
         }

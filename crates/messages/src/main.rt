@@ -1,22 +1,26 @@
+#![tactic(auto)]
+
 ghost use Rattle.std.specs.Prelude.{◌≤◌};
 
-use bytes::scan;
 use frame::Header;
 use frames::{Event, FrameReader};
 use hexes::Said;
-use libc::{STDIN_FILENO, STDOUT_FILENO};
 use outbox::Dropped;
 use wire::Counted;
+
+// file descriptors
+const STDIN: i32 = 0;
+const STDOUT: i32 = 1;
 
 // ---- fields out
 
 fn put(s: &[u8]) {
-    io::write_all(STDOUT_FILENO, s);
+    io::write_all(STDOUT, s);
 }
 
 fn decimal(n: usize) {
     put(b"\t");
-    io::print_decimal(STDOUT_FILENO, n as u64);
+    io::print_decimal(STDOUT, n as u64);
 }
 
 fn digits(s: &[u8]) {
@@ -400,7 +404,7 @@ fn lines(input: &[u8]) {
     let mut k = at_first();
     let mut at: usize = 0;
     while at < input.len() {
-        let end = scan::find(input, at, input.len(), b'\n');
+        let end = records::line_end(input, at);
         k = line(k, &input[at..end]);
         if end == input.len() {
             break;
@@ -411,7 +415,7 @@ fn lines(input: &[u8]) {
 
 fn main() {
     let mut input = records::room();
-    let n = io::read_full(STDIN_FILENO, &mut input);
+    let n = io::read_full(STDIN, &mut input);
     if n == 1048576 {
         put(b"too much input\n");
     } else {

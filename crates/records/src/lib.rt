@@ -1,3 +1,5 @@
+#![tactic(auto)]
+
 ghost use Rattle.std.specs.Prelude.{◌≡◌, ◌≤◌, length, take, drop};
 ghost use Rattle.std.proofs.lemmas.List.Edits.{sets};
 ghost use Rattle.records.specs.Fields.{field_of, words_in, ten_in};
@@ -62,6 +64,20 @@ pub fn words_in(s: &[u8], out: &mut [u32])
         out[i] = word_at(s, at);
         i += 1;
         at += 4;
+    }
+}
+
+// ---- lines
+
+// The place of the first line end from a place on, or the end of the bytes.
+pub fn line_end(s: &[u8], at: usize) -> usize
+    requires { at ≤ length s.now }
+    ensures low { at ≤ result }
+    ensures high { result ≤ length s.now }
+{
+    match memchr::memchr(b'\n', &s[at..]) {
+        Some(n) => at + n,
+        None => s.len(),
     }
 }
 

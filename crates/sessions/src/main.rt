@@ -1,18 +1,22 @@
-use bytes::scan;
+#![tactic(auto)]
+
 use hexes::Said;
-use libc::{STDIN_FILENO, STDOUT_FILENO};
 use session::{Counted, Device, Event, Link, Phase, Send, Session, Timer, Wish};
 use slots::{Linktest, Slot};
+
+// file descriptors
+const STDIN: i32 = 0;
+const STDOUT: i32 = 1;
 
 // ---- fields out
 
 fn put(s: &[u8]) {
-    io::write_all(STDOUT_FILENO, s);
+    io::write_all(STDOUT, s);
 }
 
 fn decimal(n: usize) {
     put(b"\t");
-    io::print_decimal(STDOUT_FILENO, n as u64);
+    io::print_decimal(STDOUT, n as u64);
 }
 
 fn digits(s: &[u8]) {
@@ -334,7 +338,7 @@ fn lines(input: &[u8]) {
     let mut s = made.session;
     let mut at: usize = 0;
     while at < input.len() {
-        let end = scan::find(input, at, input.len(), b'\n');
+        let end = records::line_end(input, at);
         s = line(s, &input[at..end]);
         if end == input.len() {
             break;
@@ -345,7 +349,7 @@ fn lines(input: &[u8]) {
 
 fn main() {
     let mut input = records::room();
-    let n = io::read_full(STDIN_FILENO, &mut input);
+    let n = io::read_full(STDIN, &mut input);
     if n == 1048576 {
         put(b"too much input\n");
     } else {

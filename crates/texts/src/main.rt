@@ -1,20 +1,24 @@
-use bytes::scan;
+#![tactic(auto)]
+
 use hexes::Said;
 use item::Form;
-use libc::{STDIN_FILENO, STDOUT_FILENO};
 use rows::Row;
 use text::Measured;
 use wire::Counted;
 
+// file descriptors
+const STDIN: i32 = 0;
+const STDOUT: i32 = 1;
+
 // ---- fields out
 
 fn put(s: &[u8]) {
-    io::write_all(STDOUT_FILENO, s);
+    io::write_all(STDOUT, s);
 }
 
 fn decimal(n: usize) {
     put(b"\t");
-    io::print_decimal(STDOUT_FILENO, n as u64);
+    io::print_decimal(STDOUT, n as u64);
 }
 
 fn digits(s: &[u8]) {
@@ -199,7 +203,7 @@ fn line(l: &[u8]) {
 fn lines(input: &[u8]) {
     let mut at: usize = 0;
     while at < input.len() {
-        let end = scan::find(input, at, input.len(), b'\n');
+        let end = records::line_end(input, at);
         line(&input[at..end]);
         if end == input.len() {
             break;
@@ -210,7 +214,7 @@ fn lines(input: &[u8]) {
 
 fn main() {
     let mut input = records::room();
-    let n = io::read_full(STDIN_FILENO, &mut input);
+    let n = io::read_full(STDIN, &mut input);
     if n == 1048576 {
         put(b"too much input\n");
     } else {
