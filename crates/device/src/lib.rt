@@ -1,3 +1,5 @@
+#![tactic(auto)]
+
 ghost use Rattle.std.specs.Prelude.{◌≡◌};
 ghost use Rattle.device.specs.Rows.{answer, told, takes, sent, rejected_of, complain_of, secondary_of, opened_of, primary_of, data_of};
 ghost use Rattle.device.specs.Rows.{flag_of, send_of, replied_of, t3_of};

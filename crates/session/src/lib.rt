@@ -1,3 +1,5 @@
+#![tactic(auto)]
+
 ghost use Rattle.std.specs.Prelude.{◌≡◌, true};
 ghost use Rattle.allowed.specs.Slots.{allows_slots};
 ghost use Rattle.device.specs.Rows.{reply_of};
