@@ -10,6 +10,7 @@ use wire::Counted;
 
 // file descriptors
 const STDIN: i32 = 0;
+
 const STDOUT: i32 = 1;
 
 // ---- fields out
