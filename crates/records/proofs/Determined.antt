@@ -6,6 +6,7 @@ use Rattle.records.proofs.word_at.Reads as word_at_reads
 use Rattle.records.proofs.double_at.Reads as double_at_reads
 use Rattle.records.proofs.ten_in.Reads as ten_in_reads
 use Rattle.records.proofs.words_in.Reads as words_in_reads
+use Rattle.records.proofs.line_end.Reads as line_end_reads
 use Rattle.records.proofs.room.Reads as room_reads
 use Rattle.records.proofs.blank.Reads as blank_reads
 
@@ -26,6 +27,9 @@ ten_in_one κs a r r' s s' p q = p ∙ sym q
 
 words_in_one : (κs : _) (a : _) (r r' : _) (s s' : _) → words_in_reads.Post κs a r s → words_in_reads.Post κs a r' s' → s.1.0.now ≡ s'.1.0.now
 words_in_one κs a r r' s s' p q = p ∙ sym q
+
+line_end_one : (κs : _) (a : _) (r r' : _) (s s' : _) → line_end_reads.Post κs a r s → line_end_reads.Post κs a r' s' → r ≡ r'
+line_end_one κs a r r' s s' p q = p.0 ∙ sym q.0
 
 room_one : (κs : _) (a : _) (r r' : _) (s s' : _) → room_reads.Post κs a r s → room_reads.Post κs a r' s' → r ≡ r'
 room_one κs a r r' s s' p q = p.0 ∙ sym q.0

@@ -2,7 +2,7 @@
 
 ghost use Rattle.std.specs.Prelude.{◌≡◌, ◌≤◌, length, take, drop};
 ghost use Rattle.std.proofs.lemmas.List.Edits.{sets};
-ghost use Rattle.records.specs.Fields.{field_of, words_in, ten_in};
+ghost use Rattle.records.specs.Fields.{field_of, words_in, ten_in, line_end};
 
 // ---- fields
 
@@ -71,14 +71,18 @@ pub fn words_in(s: &[u8], out: &mut [u32])
 
 // The place of the first line end from a place on, or the end of the bytes.
 pub fn line_end(s: &[u8], at: usize) -> usize
-    requires { at ≤ length s.now }
-    ensures low { at ≤ result }
+    ensures found { result ≡ line_end s.now at }
+    ensures low { at ≤ length s.now → at ≤ result }
     ensures high { result ≤ length s.now }
 {
-    match memchr::memchr(b'\n', &s[at..]) {
-        Some(n) => at + n,
-        None => s.len(),
+    let mut i = wire::smaller(at, s.len());
+    while i < s.len() {
+        if s[i] == b'\n' {
+            return i;
+        }
+        i += 1;
     }
+    i
 }
 
 // ---- room

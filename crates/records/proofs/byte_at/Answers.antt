@@ -1,5 +1,4 @@
 -- The part's number is the field's, and fits.
-use borrow.Author.Rules.{rules}
 use native.Mathlib.Omega.{arith}
 use Rattle.records.proofs.Fields.{field_is, field_lt}
 use Rattle.records.proofs.byte_at.Goals as goal

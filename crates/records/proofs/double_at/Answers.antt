@@ -1,5 +1,4 @@
 -- The part's number is the field's.
-use borrow.Author.Rules.{rules}
 use native.Mathlib.Omega.{arith}
 use Rattle.records.proofs.Fields.{field_is}
 use Rattle.records.proofs.double_at.Goals as goal

@@ -1,5 +1,4 @@
 -- The bytes are copied over ten zeros.
-use borrow.Author.Rules.{rules}
 use Rattle.records.specs.Fields.{ten_in}
 use Rattle.records.proofs.ten_in.Goals as goal
 

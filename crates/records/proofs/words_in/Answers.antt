@@ -1,5 +1,4 @@
 -- What was stored, with the numbers still to come stored behind it, stays what all numbers stored give.
-use borrow.Author.Rules.{rules}
 use Prim.Native.Nat.{ℕ, ◌+◌, ◌-◌, ◌≤◌}
 use mathlib.Core.Path.{◌≡◌, refl, sym, ◌∙◌}
 use mathlib.Core.List.{List}

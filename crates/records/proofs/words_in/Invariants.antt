@@ -1,15 +1,9 @@
 -- What was stored, with the numbers still to come stored behind it, stays what all numbers stored give.
-use borrow.Author.Rules.{rules}
-use Prim.Native.Nat.{ℕ, ◌+◌, ◌-◌, ◌≤◌}
-use mathlib.Core.Path.{◌≡◌, refl, sym, ◌∙◌}
-use mathlib.Core.List.{List}
-use native.Mathlib.Numerals.{add-one}
-use native.Mathlib.Omega.{arith}
-use borrow.Author.Tests.{leb-true, leb-false}
-use lib.ListN.{length, drop, set, length-set}
+use Prim.Native.Nat.{◌-◌, ◌≤◌}
+use mathlib.Core.Path.{◌≡◌}
+use lib.ListN.{length, drop}
 use lib.Seq.{sets}
-use Rattle.records.specs.Fields.{field_of, words_in}
-use Rattle.records.proofs.Words.{words_more, words_end, stored_behind}
+use Rattle.records.specs.Fields.{words_in}
 use Rattle.records.proofs.words_in.Given as goal
 
 abbrev pub invariant-loop-i : goal.invariant-loop-i
