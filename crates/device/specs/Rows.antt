@@ -35,11 +35,11 @@ sent d w stream function system text = Message (data_header d.id w stream functi
 -- ---- the slot with these system bytes
 
 -- its place, and what it holds
-abbrev pub field_own : Device → ℕ → ℕ
-field_own d k = found_at (Named k) d.own
+abbrev pub own_at : Device → ℕ → ℕ
+own_at d k = found_at (Named k) d.own
 
 abbrev pub own_named : Device → ℕ → Slot
-own_named d k = get_or d.own (field_own d k) free
+own_named d k = get_or d.own (own_at d k) free
 
 abbrev pub received_at : Device → ℕ → ℕ
 received_at d k = found_at (Named k) d.received
@@ -51,7 +51,7 @@ received_named d k = get_or d.received (received_at d k) free
 
 -- SType 7: closes the own slot with these system bytes (34) or nothing (35)
 unfoldable pub rejected_of : Device → Header → Acted
-rejected_of d h = pick (is_there (Named h.system) d.own) (told 34 (own_freed d (field_own d h.system))) (told 35 d)
+rejected_of d h = pick (is_there (Named h.system) d.own) (told 34 (own_freed d (own_at d h.system))) (told 35 d)
 
 -- an S9 of this function about this header, with the fresh number; received stream 9 data never provokes an S9: dropped, 32
 unfoldable pub complain_of : Device → ℕ → Header → ℕ → Acted
@@ -126,5 +126,5 @@ abort_of d k = replied_of d k 0 Empty
 unfoldable pub t3_of : Device → ℕ → ℕ → Acted
 t3_of d n k =
     pick (is_there (Named k) d.own)
-    (takes (own_freed d (field_own d k)) (sent d false 9 9 n (About (data_header d.id true (own_named d k).stream (own_named d k).function k))))
+    (takes (own_freed d (own_at d k)) (sent d false 9 9 n (About (data_header d.id true (own_named d k).stream (own_named d k).function k))))
     (told 27 d)
