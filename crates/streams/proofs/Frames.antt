@@ -49,7 +49,7 @@ module _ (ps : List (List ℕ)) (b : AllBytes ps) where
   split = record { taken = came_to.taken; is = came_to.is; unfinished = rest_unfinished came_to.kind }
 
   -- THE FRAMES HANDED OUT ARE THE STREAM'S. For every way to feed a stream, the frames handed out, headers and texts, are in order those of the bytes
-  -- consumed, and bytes have one list of frames and one rest (Once: split-once); each header, text part and end comes in its turn, and each text is as long
+  -- consumed, and bytes have one list of frames and one rest (Once: split_once); each header, text part and end comes in its turn, and each text is as long
   -- as its header said: nothing of one message reaches another. Where the reader is refused, the rest is the number's cause.
   pub frames_handed_out : HandedOut x
   frames_handed_out = record { rest = came_to.rest; split = split; in_turn = came_to.in_turn; cause = came_to.cause }
