@@ -6,6 +6,7 @@ use reader::{Answer, Phase, Reader};
 
 // file descriptors
 const STDIN: i32 = 0;
+
 const STDOUT: i32 = 1;
 
 // ---- fields out

@@ -1,3 +1,5 @@
+#![tactic(auto)]
+
 ghost use Rattle.std.specs.Prelude.{◌≡◌, ◌<◌, ◌^◌, length};
 ghost use Rattle.wire.specs.Lent.{out_after};
 ghost use Rattle.frame.specs.Header.{header_bytes, header_of, w_of, stream_of, data_header};

@@ -8,6 +8,7 @@ use wire::Counted;
 
 // file descriptors
 const STDIN: i32 = 0;
+
 const STDOUT: i32 = 1;
 
 // ---- fields out

@@ -1,5 +1,4 @@
 -- The number of the first four bytes, or of all where they are fewer: of at most four bytes it is below 2 to the power 32.
-use borrow.Author.Rules.{rules}
 use Prim.Native.Nat.{ℕ, ◌-◌, ◌≤◌, ◌<◌, ◌^◌}
 use mathlib.Core.Path.{◌≡◌, sym, ap, ◌∙◌}
 use mathlib.Core.List.{List}

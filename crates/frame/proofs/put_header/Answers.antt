@@ -1,5 +1,4 @@
 -- The session ID's bytes, the four bytes between and the system bytes are stored one behind the other, and fill the ten bytes.
-use borrow.Author.Rules.{rules}
 use Prim.Native.Nat.{ℕ}
 use mathlib.Core.Path.{◌≡◌, refl, sym, ap, ap₂, ◌∙◌}
 use mathlib.Core.List.{List, [], ◌∷◌, ◌++◌, append-nil}

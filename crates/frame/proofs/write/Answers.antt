@@ -1,5 +1,4 @@
 -- Each refusal is the definition's, before anything is stored; else the length, the header and the text are stored one behind the other.
-use borrow.Author.Rules.{rules}
 use Prim.Native.Nat.{ℕ, ◌+◌, ◌-◌, ◌≤◌}
 use mathlib.Core.Path.{◌≡◌, refl, sym, ap, ◌∙◌}
 use mathlib.Core.List.{List, ◌++◌}

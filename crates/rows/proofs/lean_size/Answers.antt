@@ -1,5 +1,4 @@
 -- A format byte, the fewest length bytes, and the content that is the row's own: at most 5 bytes more than the length.
-use borrow.Author.Rules.{rules}
 use native.Mathlib.Omega.{arith}
 use borrow.Author.Tests.{eq-eqb, ne_eqb}
 use Rattle.item.specs.Code.{L}
