@@ -19,10 +19,6 @@ filled (_ ∷ _ ∷ l) x z a b n m e =
     let all = copied_all (take 10 l) z (omega (arith, length-take 10 l)) in
     ap (λ (t : List ℕ). a ∷ b ∷ (x ++ t)) (drop_of_length-le l {i = 10} (omega arith)) ∙ ap (λ (t : List ℕ). a ∷ b ∷ t) (append-nil x ∙ e ∙ all)
 
--- TODO no goal for slice-bounds-copy-end
--- part-copy-end : tie.Need-slice-bounds-copy-end
--- part-copy-end c = simp length-set (omega (arith, c.before.before.requires))
-
 pub returns : goal.returns
 returns c =
     let d = c in
