@@ -65,6 +65,7 @@ pub fn rejected(d: Device, h: Header) -> Acted
     told_of(35, d)
 }
 
+#[tactic(auto, using(wire::proofs::Pick::pick_true, wire::proofs::Pick::pick_false, wire::proofs::Pick::equal, wire::proofs::Pick::other), unfolding(crate::specs::Rows::complain_of))]
 fn complain(d: Device, n: u32, h: Header, function: u8) -> Acted
     ensures { result ≡ complain_of d n h function }
 {
@@ -107,6 +108,7 @@ fn opened(d: Device, h: Header) -> Acted
     answer_of(0, d, sent_of(d, false, m, 0, h.system, Text::Empty))
 }
 
+#[tactic(auto, using(wire::proofs::Pick::pick_true, wire::proofs::Pick::pick_false, wire::proofs::Pick::equal, wire::proofs::Pick::other, crate::proofs::OfStream::flag_known), unfolding(crate::specs::Rows::primary_of))]
 fn primary(d: Device, n: u32, h: Header, text: &[u8]) -> Acted
     ensures { result ≡ primary_of d n h text.now }
 {
