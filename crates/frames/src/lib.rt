@@ -1,3 +1,5 @@
+#![tactic(auto)]
+
 ghost use Rattle.std.specs.Prelude.{◌≡◌, [], ◌∷◌, ◌++◌, take, drop};
 ghost use Rattle.frame.specs.Header.{header_of};
 ghost use Rattle.frame.specs.Frame.{length_in, length_number};

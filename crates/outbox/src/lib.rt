@@ -1,3 +1,5 @@
+#![tactic(auto)]
+
 ghost use Rattle.std.specs.Prelude.{◌≡◌, true, ◌-◌, ◌≤◌, ◌<◌, length, take};
 ghost use Rattle.outbox.specs.Outbox.{frame_number, front, front_size, whole_from, holds, append_of, append_after, next_number, next_of, size_of, moved, drop_of, control_after, data_after};
 

@@ -1,5 +1,4 @@
 -- The test is the definition's.
-use borrow.Author.Rules.{rules}
 use borrow.Author.Tests.{le-leb, lt-leb}
 use Rattle.element.specs.Element.{byte_of}
 use Rattle.element.proofs.byte_of.Goals as goal

@@ -1,5 +1,4 @@
 -- A float that differs from itself is the NaN, whose bits the definition fixes; any other has its own.
-use borrow.Author.Rules.{rules}
 use lib.Ieee.{to_bits}
 use Rattle.element.proofs.Nan.{differs, equals, no_nan}
 use Rattle.element.proofs.f8_bits.Goals as goal

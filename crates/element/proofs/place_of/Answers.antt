@@ -1,5 +1,4 @@
 -- The kind decides, as in the definition; a width is never 0.
-use borrow.Author.Rules.{rules}
 use mathlib.Core.Path.{◌≡◌, sym, ◌∙◌}
 use Rattle.item.specs.Code.{kind_of}
 use Rattle.item.specs.declared.Kind.TheVariants as K

@@ -1,5 +1,4 @@
 -- Each test is the definition's; an element below the count lies inside, so that its place fits.
-use borrow.Author.Rules.{rules}
 use Prim.Native.Nat.{◌/◌}
 use mathlib.Core.Path.{◌≡◌, sym, ◌∙◌}
 use mathlib.Core.Bool.{true, false}

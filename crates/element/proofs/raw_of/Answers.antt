@@ -1,5 +1,4 @@
 -- The two tags are compared as in the definition.
-use borrow.Author.Rules.{rules}
 use mathlib.Core.Path.{◌≡◌, sym, ap, ◌∙◌}
 use borrow.Author.Tests.{eq-eqb, ne_eqb}
 use Rattle.element.specs.Element.{sort_of, sort_in, tag_of, raw_of}

@@ -1,5 +1,4 @@
 -- The place and then the number decide, as in the definition; a refusal stores nothing.
-use borrow.Author.Rules.{rules}
 use mathlib.Core.Path.{◌≡◌, refl, sym, ◌∙◌}
 use lib.ListN.{length}
 use Rattle.element.specs.Element.{place_of, raw_of, set_of}

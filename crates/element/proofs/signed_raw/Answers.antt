@@ -1,5 +1,4 @@
 -- The number that stands for a signed one is handed on, and its absence is 8.
-use borrow.Author.Rules.{rules}
 use mathlib.Core.Path.{sym, ap, ◌∙◌}
 use mir.Syntax.{w64}
 use mir.ValLaws.{to_z-of_z}

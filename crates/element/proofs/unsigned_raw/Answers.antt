@@ -1,5 +1,4 @@
 -- The test is the definition's.
-use borrow.Author.Rules.{rules}
 use mathlib.Core.Path.{sym, ◌∙◌}
 use Rattle.element.specs.Element.{held_or8}
 use Rattle.element.proofs.unsigned_raw.Goals as goal

@@ -1,5 +1,4 @@
 -- The two tests are the definition's.
-use borrow.Author.Rules.{rules}
 use borrow.Author.Tests.{eq-eqb, ne_eqb}
 use Rattle.frames.proofs.allows_bare.Goals as goal
 

@@ -1,5 +1,4 @@
 -- The phase decides which tests are made, as in the definition.
-use borrow.Author.Rules.{rules}
 use mathlib.Core.Path.{sym, ◌∙◌}
 use Rattle.frames.specs.declared.Phase.TheVariants.{Head, Text, Refused}
 use Rattle.frames.proofs.Held.{allows_in}

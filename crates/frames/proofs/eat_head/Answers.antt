@@ -1,11 +1,6 @@
 -- The bytes of a piece that are left are eaten from the present reader as the whole piece is from the first: a turn is a step of the definition.
-use borrow.Author.Rules.{rules}
-use Prim.Native.Nat.{◌-◌, ◌≤◌}
-use mathlib.Core.Path.{◌≡◌, refl, sym, ap, subst, ◌∙◌}
+use mathlib.Core.Path.{refl, sym, ap, subst, ◌∙◌}
 use native.Mathlib.Omega.{arith}
-use lib.ListN.{length, drop}
-use Rattle.frames.specs.Feed.{eat}
-use Rattle.frames.specs.Asked.{Held}
 use Rattle.frames.specs.declared.Event.TheVariants.{More}
 use Rattle.frames.specs.declared.FrameReader.{FrameReader}
 use Rattle.frames.proofs.Held.{bytes_in}

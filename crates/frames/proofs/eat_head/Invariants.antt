@@ -1,15 +1,10 @@
 -- The bytes of a piece that are left are eaten from the present reader as the whole piece is from the first: a turn is a step of the definition.
-use borrow.Author.Rules.{rules}
 use Prim.Native.Nat.{◌-◌, ◌≤◌}
-use mathlib.Core.Path.{◌≡◌, refl, sym, ap, subst, ◌∙◌}
-use native.Mathlib.Omega.{arith}
+use mathlib.Core.Path.{◌≡◌}
 use lib.ListN.{length, drop}
 use Rattle.frames.specs.Feed.{eat}
 use Rattle.frames.specs.Asked.{Held}
-use Rattle.frames.specs.declared.Event.TheVariants.{More}
-use Rattle.frames.specs.declared.FrameReader.{FrameReader}
 use Rattle.frames.proofs.Held.{bytes_in}
-use Rattle.frames.proofs.Eats.{Over, Turned, turned, eat_end}
 use Rattle.frames.proofs.eat_head.Given as goal
 
 abbrev pub invariant-loop-i : goal.invariant-loop-i

@@ -1,5 +1,4 @@
 -- A reader before a frame holds no byte of its head.
-use borrow.Author.Rules.{rules}
 use Rattle.frames.specs.State.{reader_of}
 use Rattle.frames.proofs.fresh_reader.Goals as goal
 

@@ -1,9 +1,7 @@
 -- The byte is stored behind those that are held; the fourth is judged by the length, the last with the header, and after any other the head goes on.
-use borrow.Author.Rules.{rules}
 use Prim.Native.Nat.{ℕ}
 use mathlib.Core.Path.{◌≡◌, refl, sym, ap, ◌∙◌}
 use mathlib.Core.List.{[], ◌∷◌, ◌++◌}
-use mathlib.Core.Logic.{⊎_elim}
 use native.Mathlib.Omega.{arith}
 use lib.ListN.{length, set}
 use Rattle.frame.specs.Frame.{length_in, length_number}
@@ -56,8 +54,8 @@ returns c =
     let t = bytes_in b.args.r ++ (b.args.b ∷ []) in
     let short : length t ≡ 14 → ⊥ = λ e. c.if-count-eq13.false (omega (arith, e, n.size)) in
     let none : head_number t ≡ 0 =
-        elim c.if-count-eq3.branch [
-          then-count-eq3+else-number-ne0 w ↦ sym (fourth n w.if-count-eq3.true w.length_in.ensures.0 w.length_number-number.ensures) ∙ w.if-number-ne0.false
-        | else-count-eq3 w ↦ number_other t (λ e. w.if-count-eq3.false (omega (arith, e, n.size))) short
-        ] in
+    elim c.if-count-eq3.branch [
+      | then-count-eq3+else-number-ne0 w ↦ sym (fourth n w.if-count-eq3.true w.length_in.ensures.0 w.length_number-number.ensures) ∙ w.if-number-ne0.false
+      | else-count-eq3 w ↦ number_other t (λ e. w.if-count-eq3.false (omega (arith, e, n.size))) short
+    ] in
     rw (n.array, ← pushed_more t none short, n.size) refl

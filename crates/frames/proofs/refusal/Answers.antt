@@ -1,5 +1,4 @@
 -- A refused reader holds no byte.
-use borrow.Author.Rules.{rules}
 use Rattle.frames.specs.State.{reader_of}
 use Rattle.frames.proofs.refusal.Goals as goal
 

@@ -1,6 +1,5 @@
 -- The two tests are the definition's, and the smaller of the two counts is taken.
 use native.Mathlib.Omega.{arith}
-use borrow.Author.Rules.{rules}
 use borrow.Author.Tests.{eq-eqb, ne_eqb}
 use Rattle.frames.specs.State.{reader_of}
 use Rattle.frames.specs.Feed.{text_fed}

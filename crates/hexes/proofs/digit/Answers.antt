@@ -1,5 +1,4 @@
 -- Each arm is a range of the definition, and what lies between the ranges is in none.
-use borrow.Author.Rules.{rules}
 use mathlib.Core.Path.{sym}
 use native.Mathlib.Omega.{arith}
 use Rattle.hexes.proofs.Laws.{below, above, digit_decimal, digit_upper, digit_lower, digit_none}

@@ -1,5 +1,4 @@
 -- The test is the definition's.
-use borrow.Author.Rules.{rules}
 use borrow.Author.Tests.{lt-ltb, le-ltb}
 use Rattle.hexes.specs.Hex.{glyph_of}
 use Rattle.hexes.proofs.glyph.Goals as goal

@@ -1,5 +1,4 @@
 -- The room is tested before anything is stored; what is stored then covers the front of the output.
-use borrow.Author.Rules.{rules}
 use Prim.Native.Nat.{◌*◌, ◌≤◌}
 use mathlib.Core.Path.{refl, sym, ◌∙◌}
 use native.Mathlib.Omega.{arith}

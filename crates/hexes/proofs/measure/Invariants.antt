@@ -1,16 +1,8 @@
 -- The place and the bytes counted so far, with the characters still to read, stay those of the whole line.
-use borrow.Author.Rules.{rules}
-use Prim.Native.Nat.{ℕ, ◌+◌, ◌-◌, ◌≤◌}
-use mathlib.Core.Path.{◌≡◌, refl, sym, ap, ◌∙◌}
-use mathlib.Core.Bool.{cond}
-use mathlib.Core.List.{List, []}
-use native.Mathlib.Nat.{add-zero}
-use native.Mathlib.Omega.{arith}
-use borrow.Author.Tests.{eq-eqb, ne_eqb}
-use lib.ListN.{length, drop, drop_of_length-le}
-use Rattle.hexes.specs.Hex.{place_after, bytes_from, between, is_hex, bytes_in}
-use Rattle.hexes.specs.declared.Said.TheVariants.{Bytes, Wrong}
-use Rattle.hexes.proofs.Laws.{place_turn, size_turn}
+use Prim.Native.Nat.{◌+◌, ◌-◌, ◌≤◌}
+use mathlib.Core.Path.{◌≡◌}
+use lib.ListN.{length, drop}
+use Rattle.hexes.specs.Hex.{place_after, bytes_from, between}
 use Rattle.hexes.proofs.measure.Given as goal
 
 abbrev pub invariant-loop-i : goal.invariant-loop-i

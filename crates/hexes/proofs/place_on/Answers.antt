@@ -1,5 +1,4 @@
 -- The tests are the definition's, and of what is no space the digit decides.
-use borrow.Author.Rules.{rules}
 use borrow.Author.Tests.{eq-eqb, ne_eqb}
 use Rattle.hexes.specs.Hex.{place_on}
 use Rattle.hexes.proofs.place_on.Goals as goal

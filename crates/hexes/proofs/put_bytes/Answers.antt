@@ -1,13 +1,10 @@
 -- What was stored, with the bytes still to come stored behind it, stays what all the line's bytes stored give.
-use borrow.Author.Rules.{rules}
-use Prim.Native.Nat.{◌+◌, ◌-◌, ◌≤◌}
 use mathlib.Core.Path.{◌≡◌, refl, ◌∙◌}
 use mathlib.Core.List.{[]}
 use native.Mathlib.Omega.{arith}
 use borrow.Author.Tests.{eqb-true}
-use lib.ListN.{length, drop, drop_of_length-le}
-use lib.Seq.{sets}
-use Rattle.hexes.specs.Hex.{place_after, bytes_from, between, is_hex, bytes_in}
+use lib.ListN.{drop, drop_of_length-le}
+use Rattle.hexes.specs.Hex.{is_hex, bytes_in}
 use Rattle.hexes.proofs.Laws.{begun_ends, place_turn, size_turn, store_turn, store_kept}
 use Rattle.hexes.proofs.put_bytes.Goals as goal
 

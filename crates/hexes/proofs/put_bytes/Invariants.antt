@@ -1,14 +1,9 @@
 -- What was stored, with the bytes still to come stored behind it, stays what all the line's bytes stored give.
-use borrow.Author.Rules.{rules}
 use Prim.Native.Nat.{◌+◌, ◌-◌, ◌≤◌}
-use mathlib.Core.Path.{◌≡◌, refl, ◌∙◌}
-use mathlib.Core.List.{[]}
-use native.Mathlib.Omega.{arith}
-use borrow.Author.Tests.{eqb-true}
-use lib.ListN.{length, drop, drop_of_length-le}
+use mathlib.Core.Path.{◌≡◌}
+use lib.ListN.{length, drop}
 use lib.Seq.{sets}
-use Rattle.hexes.specs.Hex.{place_after, bytes_from, between, is_hex, bytes_in}
-use Rattle.hexes.proofs.Laws.{begun_ends, place_turn, size_turn, store_turn, store_kept}
+use Rattle.hexes.specs.Hex.{place_after, bytes_from, between, bytes_in}
 use Rattle.hexes.proofs.put_bytes.Given as goal
 
 abbrev pub invariant-loop-i : goal.invariant-loop-i

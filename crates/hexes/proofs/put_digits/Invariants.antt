@@ -1,13 +1,9 @@
 -- What was stored, with the digits still to come stored behind it, stays what all digits stored give.
-use borrow.Author.Rules.{rules}
-use Prim.Native.Nat.{ℕ, suc, ◌+◌, ◌*◌, ◌-◌, ◌/◌, ◌%◌, ◌<◌, ◌≤◌}
-use mathlib.Core.Path.{◌≡◌, refl, ◌∙◌}
-use mathlib.Core.List.{List, []}
-use native.Mathlib.Numerals.{add-one}
-use native.Mathlib.Omega.{arith}
-use lib.ListN.{length, drop, get_or, set, length-set, drop_of_length-le}
-use lib.Seq.{sets, drop-cons}
-use Rattle.hexes.specs.Hex.{glyph_of, hex_of}
+use Prim.Native.Nat.{◌*◌, ◌-◌, ◌≤◌}
+use mathlib.Core.Path.{◌≡◌}
+use lib.ListN.{length, drop}
+use lib.Seq.{sets}
+use Rattle.hexes.specs.Hex.{hex_of}
 use Rattle.hexes.proofs.put_digits.Given as goal
 
 abbrev pub invariant-loop-i : goal.invariant-loop-i

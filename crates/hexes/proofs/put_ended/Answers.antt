@@ -1,5 +1,4 @@
 -- The test is the definition's, and two digits make a byte.
-use borrow.Author.Rules.{rules}
 use Prim.Native.Nat.{◌<◌}
 use mathlib.Core.Path.{◌≡◌}
 use mathlib.Core.Bool.{true}

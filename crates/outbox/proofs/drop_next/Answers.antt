@@ -1,5 +1,4 @@
 -- With the number 0 the outbox that the message comes from holds some, and loses its first; the other stays as it is.
-use borrow.Author.Rules.{rules}
 use mathlib.Core.Path.{refl, sym, ◌∙◌}
 use native.Mathlib.Omega.{arith}
 use borrow.Author.Tests.{eq-eqb, ne_eqb}

@@ -1,5 +1,4 @@
 -- A frame that append takes is no longer than the bytes, and the part that is asked for is the front.
-use borrow.Author.Rules.{rules}
 use Prim.Native.Nat.{ℕ, ◌+◌, ◌-◌}
 use mathlib.Core.Path.{◌≡◌, sym, ap, ◌∙◌}
 use native.Mathlib.Omega.{arith}

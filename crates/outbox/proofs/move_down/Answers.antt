@@ -2,7 +2,6 @@
 use Prim.Native.Nat.{ℕ, ◌+◌, ◌-◌, ◌≤◌}
 use mathlib.Core.Path.{◌≡◌, refl, sym, ap, ◌∙◌}
 use mathlib.Core.List.{List, ◌++◌}
-use mathlib.Core.Logic.{⊎_elim}
 use native.Mathlib.Numerals.{add-one}
 use native.Mathlib.Omega.{arith}
 use lib.ListN.{length, get_or, set, take, drop, length-set}
@@ -66,9 +65,9 @@ loop-i-preserved c =
     let low = moved_low s a.size a.used p.0 p.1 l.i in
     let high = moved_high s a.size a.used p.0 p.1 l.i in
     elim c.if-size-used.branch [
-      then-size-used w ↦
-        stored _ w.s-is (ap (λ (z : List ℕ). get_or z (l.i + a.size) 0) l.invariant.2 ∙ behind to s l.i (l.i + a.size) (omega arith) (omega arith) ∙ sym (low (omega arith)))
-    | else-size-used w ↦ stored 0 w.s-is (sym (high (omega arith) (omega arith)))
+      | then-size-used w ↦
+          stored _ w.s-is (ap (λ (z : List ℕ). get_or z (l.i + a.size) 0) l.invariant.2 ∙ behind to s l.i (l.i + a.size) (omega arith) (omega arith) ∙ sym (low (omega arith)))
+      | else-size-used w ↦ stored 0 w.s-is (sym (high (omega arith) (omega arith)))
     ]
 
 pub shape_of-s : goal.shape_of-s

@@ -1,5 +1,4 @@
 -- The number is that of the two outboxes, and with 0 the one that the message comes from holds some.
-use borrow.Author.Rules.{rules}
 use mathlib.Core.Path.{sym, ◌∙◌}
 use native.Mathlib.Omega.{arith}
 use borrow.Author.Tests.{eq-eqb, ne_eqb}

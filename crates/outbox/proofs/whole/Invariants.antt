@@ -1,13 +1,8 @@
 -- What is left is whole frames just where all is: a frame more is passed over, and at the end nothing is left.
-use borrow.Author.Rules.{rules}
-use Prim.Native.Nat.{ℕ, ◌+◌, ◌-◌, ◌≤◌, ◌<◌}
-use mathlib.Core.Path.{◌≡◌, refl, sym, ap, ◌∙◌}
-use mathlib.Core.List.{List}
-use native.Mathlib.Omega.{arith}
-use lib.ListN.{length, drop, length-drop, drop_of_length-le}
-use lib.Seq.{take_all, drop-drop}
-use Rattle.outbox.specs.Outbox.{front_size, whole_from}
-use Rattle.outbox.proofs.Fronts.{sized, not_whole}
+use Prim.Native.Nat.{◌-◌, ◌≤◌}
+use mathlib.Core.Path.{◌≡◌}
+use lib.ListN.{length, drop}
+use Rattle.outbox.specs.Outbox.{whole_from}
 use Rattle.outbox.proofs.whole.Given as goal
 
 abbrev pub invariant-loop-at : goal.invariant-loop-at
