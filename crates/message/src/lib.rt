@@ -40,6 +40,7 @@ pub enum Send {
 }
 
 // A received header by its kind: SType 7 before the PType, the PType before the SType.
+#[tactic(auto, unfolding(crate::specs::Message::received_of))]
 pub fn received_of(h: Header) -> Received
     ensures { result ≡ received_of h }
 {

@@ -83,6 +83,7 @@ pub fn is_running(t: Linktest, system: u32) -> bool
     if t.running { t.system == system } else { false }
 }
 
+#[tactic(auto, unfolding(crate::specs::Slots::passes))]
 fn is_answered(s: Slot, system: u32, stream: u8, function: u8) -> bool
     ensures { result ≡ passes (Query.Answered system stream function) s }
 {
@@ -128,6 +129,7 @@ pub fn find(slots: [Slot; 32], q: Query) -> usize
 }
 
 // Another slot at a place; as they are where there is no such place.
+#[tactic(auto, using(crate::proofs::Past::set_past))]
 pub fn with_slot(slots: [Slot; 32], at: usize, s: Slot) -> [Slot; 32]
     ensures { result ≡ set slots at s }
 {

@@ -63,6 +63,7 @@ fn session_of(id: u16) -> Session
 }
 
 // A session for a device ID.
+#[tactic(auto, unfolding(crate::specs::State::made_of))]
 pub fn new_session(id: u16) -> Made
     ensures { result ≡ made_of id }
 {
