@@ -4,9 +4,10 @@ use element::{Element, Got};
 use hexes::Said;
 use wire::{Bits, Counted, Width};
 
-// file descriptors
+// standard input, as a file descriptor
 const STDIN: i32 = 0;
 
+// standard output
 const STDOUT: i32 = 1;
 
 // ---- fields out

@@ -4,9 +4,10 @@ use hexes::Said;
 use item::Form;
 use reader::{Answer, Phase, Reader};
 
-// file descriptors
+// standard input, as a file descriptor
 const STDIN: i32 = 0;
 
+// standard output
 const STDOUT: i32 = 1;
 
 // ---- fields out

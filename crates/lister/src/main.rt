@@ -3,9 +3,13 @@
 
 use capture::Lister;
 
-// file descriptors
+// standard input, as a file descriptor
 const STDIN: i32 = 0;
+
+// standard output
 const STDOUT: i32 = 1;
+
+// standard error
 const STDERR: i32 = 2;
 
 // The lister behind a block, and whether to go on: it has not stopped, and what it printed was written.
@@ -16,10 +20,7 @@ struct Turn {
 }
 
 fn cannot_write() {
-    io::write_all(
-        STDERR,
-        b"lister: standard output cannot be written\n",
-    );
+    io::write_all(STDERR, b"lister: standard output cannot be written\n");
 }
 
 // Lists a block, an output at a time.

@@ -8,9 +8,10 @@ use hexes::Said;
 use outbox::Dropped;
 use wire::Counted;
 
-// file descriptors
+// standard input, as a file descriptor
 const STDIN: i32 = 0;
 
+// standard output
 const STDOUT: i32 = 1;
 
 // ---- fields out

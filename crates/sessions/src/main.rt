@@ -4,8 +4,10 @@ use hexes::Said;
 use session::{Counted, Device, Event, Link, Phase, Send, Session, Timer, Wish};
 use slots::{Linktest, Slot};
 
-// file descriptors
+// standard input, as a file descriptor
 const STDIN: i32 = 0;
+
+// standard output
 const STDOUT: i32 = 1;
 
 // ---- fields out

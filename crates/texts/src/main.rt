@@ -6,9 +6,10 @@ use rows::Row;
 use text::Measured;
 use wire::Counted;
 
-// file descriptors
+// standard input, as a file descriptor
 const STDIN: i32 = 0;
 
+// standard output
 const STDOUT: i32 = 1;
 
 // ---- fields out
