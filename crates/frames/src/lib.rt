@@ -1,6 +1,6 @@
 #![tactic(auto)]
 
-ghost use Rattle.std.specs.Prelude.{◌≡◌, [], ◌∷◌, ◌++◌, take, drop};
+ghost use Rattle.std.specs.Prelude.{◌≡◌, [], ◌∷◌, ◌++◌, min, take, drop};
 ghost use Rattle.frame.specs.Header.{header_of};
 ghost use Rattle.frame.specs.Frame.{length_in, length_number};
 ghost use Rattle.frames.specs.State.{head, refused, holding, reader_of};
@@ -266,12 +266,18 @@ fn text_fed(left: usize, size: usize) -> Fed
             reader: bare(left, Phase::Text),
         };
     }
-    let n = wire::smaller(left, size);
+    let n = smaller(left, size);
     Fed {
         event: Event::Text(n),
         consumed: n,
         reader: bare(left - n, Phase::Text),
     }
+}
+
+fn smaller(m: usize, n: usize) -> usize
+    ensures { result ≡ min m n }
+{
+    if m <= n { m } else { n }
 }
 
 // A piece more, perhaps empty: what it reached first.

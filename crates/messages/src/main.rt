@@ -138,6 +138,12 @@ fn goes_on(e: Event) -> bool {
     }
 }
 
+fn smaller(m: usize, n: usize) -> usize
+    ensures { (result ≤ m) × (result ≤ n) }
+{
+    if m <= n { m } else { n }
+}
+
 // Feeds of a piece, at most. Each header or text that is reached consumes a byte, and at most one end follows it, so that a piece of half as many bytes needs no more.
 const FEEDS: usize = 1_048_578;
 
@@ -150,7 +156,7 @@ fn piece(r: FrameReader, b: &[u8]) -> FrameReader {
         let event = f.event;
         reader = f.reader;
         event_line(event, f.consumed);
-        at += wire::smaller(f.consumed, b.len() - at);
+        at += smaller(f.consumed, b.len() - at);
         if goes_on(event) {
             feeds += 1;
         } else {
