@@ -93,7 +93,7 @@ returns c =
     rw (
       ne_eqb a.v 0 o.if-v-eq0.false,
       stack_length l.awaited l.level,
-      ne_eqb l.level 16 o.if-depth-eq16.false,
+      ne_eqb l.level 16 c.if-depth-eq16.false,
       some_fit_2 f c.if-fits_items-2.false,
     )
     c.refusal-2.ensures
