@@ -21,8 +21,7 @@ use Rattle.reader.specs.Feed.{allows_phase as reads_phase, allows_frame, allows_
 use Rattle.message.specs.Message.{response}
 use Rattle.message.specs.declared.Received.TheVariants.{SelectReq, SeparateReq, Data}
 use Rattle.message.specs.declared.Text.TheVariants.{About, Wished}
-use Rattle.message.specs.declared.Send.{Send}
-use Rattle.message.specs.declared.Send.TheVariants.{Nothing, Message}
+use Rattle.message.specs.Send.{Send, Nothing, Message}
 use Rattle.state.specs.State.{session_of}
 use Rattle.state.specs.declared.Phase.{Phase}
 use Rattle.state.specs.declared.Phase.TheVariants.{NotSelected, Selected}

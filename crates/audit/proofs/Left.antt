@@ -8,16 +8,15 @@ use Rattle.wire.proofs.Pick.{by_pick}
 use Rattle.frame.specs.declared.Header.{Header}
 use Rattle.message.specs.Message.{response}
 use Rattle.message.specs.declared.Received.TheVariants.{DeselectReq}
-use Rattle.message.specs.declared.Send.{Send}
-use Rattle.message.specs.declared.Send.TheVariants.{Nothing, Message}
+use Rattle.message.specs.Send.{Send, Nothing, Message}
 use Rattle.state.specs.State.{fresh, is_selected, received_open}
 use Rattle.state.specs.declared.Session.{Session}
 use Rattle.state.proofs.Phases.{selected_connected}
 use Rattle.allowed.specs.States.{allows}
 use Rattle.link.specs.Rows as link
-use Rattle.link.specs.declared.Linked.{Linked}
+use Rattle.link.specs.Linked.{Linked}
 use Rattle.session.specs.Table.{by_link, came_of, wish_of, event_of, step_of}
-use Rattle.session.specs.declared.Stepped.{Stepped}
+use Rattle.session.specs.Stepped.{Stepped}
 use Rattle.session.specs.declared.Wish.TheVariants.{Disconnect}
 use Rattle.session.specs.declared.Event.{Event}
 use Rattle.session.specs.declared.Event.TheVariants.{Wish as on_wish, Received as on_received}

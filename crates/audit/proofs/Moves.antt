@@ -18,20 +18,19 @@ use Rattle.slots.specs.declared.Query.TheVariants.{Free, Named}
 use Rattle.message.specs.declared.Received.TheVariants.{Data}
 use Rattle.message.specs.declared.Text.{Text}
 use Rattle.message.specs.declared.Text.TheVariants.{Empty, About, Wished}
-use Rattle.message.specs.declared.Send.{Send}
-use Rattle.message.specs.declared.Send.TheVariants.{Message}
+use Rattle.message.specs.Send.{Send, Message}
 use Rattle.state.specs.State.{fresh, is_selected, selected, with_received, received_freed}
 use Rattle.state.specs.declared.Device.{Device}
 use Rattle.state.specs.declared.Session.{Session}
 use Rattle.allowed.proofs.Slots.{primary_range}
 use Rattle.link.specs.Rows as link
-use Rattle.link.specs.declared.Linked.{Linked}
+use Rattle.link.specs.Linked.{Linked}
 use Rattle.device.specs.Rows as device
-use Rattle.device.specs.declared.Acted.{Acted}
+use Rattle.device.specs.Acted.{Acted}
 use Rattle.device.proofs.Rows.{Wrong, wrong_1, wrong_3, wrong_5, wrong_7, dropped_32, dropped_33, Ends, drops, complains, closes as by_closing}
 use Rattle.device.proofs.Rows.{aborts as by_aborting, opens as by_opening, hears, data_ends}
 use Rattle.session.specs.Table.{told, by_link, by_device, step_of}
-use Rattle.session.specs.declared.Stepped.{Stepped}
+use Rattle.session.specs.Stepped.{Stepped}
 use Rattle.session.specs.declared.Wish.{Wish}
 use Rattle.session.specs.declared.Wish.TheVariants.{Connect, Disconnect, Flag, Primary, Reply, Abort, Linktest, Separate}
 use Rattle.session.specs.declared.Event.{Event}

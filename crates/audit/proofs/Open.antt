@@ -10,7 +10,7 @@ use borrow.Author.Tests.{eq-eqb}
 use lib.Dec.{eqb}
 use lib.ListN.{length}
 use Rattle.frame.specs.declared.Header.{Header}
-use Rattle.message.specs.declared.Send.{Send}
+use Rattle.message.specs.Send.{Send}
 use Rattle.state.specs.State.{is_selected}
 use Rattle.protocol.specs.Protocol.{is_data}
 use Rattle.audit.specs.Run.{Seen, At, SeenAt}

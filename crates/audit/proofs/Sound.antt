@@ -12,7 +12,7 @@ use Rattle.state.specs.State.{session_of, is_selected}
 use Rattle.state.specs.declared.Session.{Session}
 use Rattle.allowed.proofs.Made.{made_allowed}
 use Rattle.session.specs.Table.{step_of}
-use Rattle.session.specs.declared.Stepped.{Stepped}
+use Rattle.session.specs.Stepped.{Stepped}
 use Rattle.session.specs.declared.Event.{Event}
 use Rattle.reached.specs.Reached.{Happened, after, Fits, AllFit}
 use Rattle.reached.proofs.Kept.{Kept, kept_allowed, allowed_kept}

@@ -12,9 +12,9 @@ use lib.ListN.{length}
 use Rattle.frame.specs.Header.{stream_of, data_header}
 use Rattle.frame.specs.declared.Header.{Header}
 use Rattle.message.specs.declared.Text.{Text}
-use Rattle.message.specs.declared.Send.TheVariants.{Message}
+use Rattle.message.specs.Send.{Message}
 use Rattle.state.specs.declared.Session.{Session}
-use Rattle.session.specs.declared.Stepped.{Stepped}
+use Rattle.session.specs.Stepped.{Stepped}
 use Rattle.session.specs.declared.Wish.TheVariants.{Reply, Abort}
 use Rattle.session.specs.declared.Event.{Event}
 use Rattle.session.specs.declared.Event.TheVariants.{Wish as on_wish}

@@ -21,11 +21,11 @@ use Rattle.slots.proofs.Found.{free_not_named, named_system, named_taken, none_t
 use Rattle.wire.proofs.Search.{first_passes, stored_here, stored_other}
 use Rattle.allowed.proofs.Slots.{closed_not_there}
 use Rattle.message.specs.declared.Text.{Text}
-use Rattle.message.specs.declared.Send.{Send}
+use Rattle.message.specs.Send.{Send}
 use Rattle.state.specs.State.{is_selected}
 use Rattle.state.specs.declared.Session.{Session}
 use Rattle.device.specs.Rows.{received_at}
-use Rattle.session.specs.declared.Stepped.{Stepped}
+use Rattle.session.specs.Stepped.{Stepped}
 use Rattle.session.specs.declared.Event.{Event}
 use Rattle.reached.proofs.Kept.{Kept}
 use Rattle.audit.specs.Run.{Seen, seen_as}

@@ -8,8 +8,7 @@ use Rattle.message.specs.declared.Received.{Received}
 use Rattle.message.specs.declared.Received.TheVariants.{Reject, OtherPType, OtherSType, SelectReq, SelectRsp, DeselectReq, DeselectRsp, LinktestReq}
 use Rattle.message.specs.declared.Received.TheVariants.{LinktestRsp, SeparateReq, Data}
 use Rattle.message.specs.declared.Text.TheVariants.{Empty, About, Wished}
-use Rattle.message.specs.declared.Send.{Send}
-use Rattle.message.specs.declared.Send.TheVariants.{Message}
+use Rattle.message.specs.Send.{Send, Message}
 use Rattle.session.specs.declared.Timer.TheVariants.{T3}
 use Rattle.session.specs.declared.Wish.{Wish}
 use Rattle.session.specs.declared.Wish.TheVariants.{Connect, Disconnect, Flag, Primary, Reply, Abort, Linktest, Separate}

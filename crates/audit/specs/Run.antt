@@ -1,11 +1,11 @@
 -- A run of a session as it is seen from outside: events, phases, numbers and what is sent.
 use Rattle.std.specs.Prelude.{ℕ, List, [], ◌∷◌, ◌⊎◌, ◌≡◌, length}
-use Rattle.message.specs.declared.Send.{Send}
+use Rattle.message.specs.Send.{Send}
 use Rattle.state.specs.State.{session_of}
 use Rattle.state.specs.declared.Phase.{Phase}
 use Rattle.state.specs.declared.Session.{Session}
 use Rattle.session.specs.Table.{step_of}
-use Rattle.session.specs.declared.Stepped.{Stepped}
+use Rattle.session.specs.Stepped.{Stepped}
 use Rattle.session.specs.declared.Event.{Event}
 use Rattle.reached.specs.Reached.{Happened}
 

@@ -1,23 +1,46 @@
 -- What a byte gives, where it is known what the readers answered: each is its definition with that answer put in.
-use Rattle.std.proofs.Common.{◌≡◌, ℕ, ◌+◌, ◌*◌, Bool, true, false, cond, [], ◌∷◌, sym, ap, ◌∙◌, eq-eqb, ne_eqb}
+use Rattle.std.proofs.Common.{◌≡◌, ℕ, Bool, true, false, not, cond, [], ◌∷◌, Option, Some, None, refl, sym, ap, ◌∙◌, arith, ne_eqb}
 use Rattle.frame.specs.declared.Header.{Header}
 use Rattle.frames.specs.Feed.{end_of, fed_of as frame_fed}
-use Rattle.frames.specs.declared.Event.{Event}
-use Rattle.frames.specs.declared.Fed.{Fed as FrameFed}
+use Rattle.frames.specs.Event.{Event, event_of}
+use Rattle.frames.specs.declared.Event.{Event as Reached}
+use Rattle.frames.specs.declared.Event.TheVariants as N
+use Rattle.frames.specs.declared.FrameReader.{FrameReader}
+use Rattle.frames.specs.Event.{Fed as FrameFed}
 use Rattle.item.specs.declared.Form.TheVariants.{Good as good}
 use Rattle.reader.specs.State.{fresh, reader_of}
 use Rattle.reader.proofs.Fresh.{fresh_status}
 use Rattle.reader.specs.Feed.{status, status_of, fed_of}
-use Rattle.reader.specs.declared.Answer.{Answer}
-use Rattle.reader.specs.declared.Fed.{Fed}
-use Rattle.reader.specs.declared.Phase.TheVariants.{Length}
+use Rattle.reader.specs.Answer.{Answer, Fed, progress_in}
+use Rattle.reader.specs.declared.Progress.{Progress}
+use Rattle.reader.specs.declared.Progress.TheVariants as R
+use Rattle.refusal.specs.Number.{number_of}
+use Rattle.refusal.specs.declared.Refusal.{Refusal as Cause}
+use Rattle.refusal.proofs.Once.{some_number}
+use Rattle.lines.specs.declared.Line.{Line}
 use Rattle.reader.specs.declared.Reader.{Reader}
-use Rattle.lines.specs.declared.Line.TheVariants.{Nothing, Message, Item}
+use Rattle.lines.specs.declared.Line.TheVariants.{Message, Refusal, End}
 use Rattle.capture.specs.Capture.{told, behind, one_more, with_frames, with_text, by_answer, by_event, settled_by}
-use Rattle.capture.specs.Capture.{item_at, is_data, text_byte, header_came, settled, fed_byte, byte_told, ended_by, last_line}
+use Rattle.capture.specs.Capture.{item_at, is_data, text_byte, header_came, settled, fed_byte, ended_by, last_line}
 use Rattle.capture.specs.declared.Lister.{Lister}
 
+-- what a test with ! says
+pub not_true : (b : Bool) → not b ≡ true → b ≡ false
+not_true true e = cc
+not_true false e = refl
+
+pub not_false : (b : Bool) → not b ≡ false → b ≡ true
+not_false true e = refl
+not_false false e = cc
+
 -- ---- the frame reader's answer
+
+-- only a frame's end settles
+pub unsettled : (e : Reached) (l : Lister) (r : FrameReader) → (e ≡ N.End → ⊥) → settled_by (event_of e) l r ≡ l
+unsettled N.More l r h = refl
+unsettled (N.Header x n) l r h = refl
+unsettled (N.Text n) l r h = refl
+unsettled N.End l r h = absurd (h refl)
 
 module _ (l : Lister) (b : ℕ) (f : FrameFed) (e : Event) where
   pub settled_as : f ≡ frame_fed l.frames [] → f.event ≡ e → settled l ≡ settled_by e l f.reader
@@ -37,17 +60,17 @@ module _ (l : Lister) (b : ℕ) where
   unfolding text_byte
   listed_as f t a h p q r = rw (h, ← p, r, q)
 
-  pub unlisted_as : l.listed ≡ false → text_byte l b ≡ told l Nothing Nothing
+  pub unlisted_as : l.listed ≡ false → text_byte l b ≡ told l None None
   unfolding text_byte
   unlisted_as h = rw h
 
 module _ (l : Lister) (h : Header) (n : ℕ) (t : Lister) where
   pub data_as : (r : Reader) (s a : Answer) → is_data h ≡ true → r ≡ reader_of (fresh good n) → t ≡ with_text l r true → s ≡ status (fresh good n) → s ≡ a
-      → header_came l h n ≡ behind (Message h n) (by_answer a Nothing t)
+      → header_came l h n ≡ behind (Some (Message h n)) (by_answer a None t)
   unfolding header_came
   data_as r s a d p q m k = rw (d, ← m, k, q, p)
 
-  pub other_as : is_data h ≡ false → t ≡ with_text l l.text false → header_came l h n ≡ behind (Message h n) (told t Nothing Nothing)
+  pub other_as : is_data h ≡ false → t ≡ with_text l l.text false → header_came l h n ≡ behind (Some (Message h n)) (told t None None)
   unfolding header_came
   other_as d q = rw (d, q)
 
@@ -55,34 +78,28 @@ module _ (l : Lister) (h : Header) (n : ℕ) (t : Lister) where
 pub fresh_answer : (n : ℕ) (r : Reader) (a : Answer) → r ≡ reader_of (fresh good n) → a ≡ status_of r → a ≡ status (fresh good n)
 fresh_answer n r a e q = q ∙ ap status_of e ∙ fresh_status good n
 
--- ---- a byte
-
-pub stopped_as : (l : Lister) (b : ℕ) → l.stopped ≡ true → byte_told l b ≡ told l Nothing Nothing
-unfolding byte_told
-stopped_as l b h = ap (λ (x : Bool). cond x (told l Nothing Nothing) (fed_byte (settled l) b)) h
-
-pub going_as : (l s : Lister) (b : ℕ) → l.stopped ≡ false → s ≡ settled l → byte_told l b ≡ fed_byte s b
-unfolding byte_told
-going_as l s b h e = ap (λ (x : Bool). cond x (told l Nothing Nothing) (fed_byte (settled l) b)) h ∙ ap (λ (x : Lister). fed_byte x b) (sym e)
-
--- ---- an item's line
-
-module _ (c j v depth b : ℕ) where
-  pub item_now : j ≡ 1 → item_at (Length c j v) depth b ≡ Item depth c (v * 256 + b)
-  item_now h = rw (eq-eqb j 1 h)
-
-  pub item_early : (j ≡ 1 → ⊥) → item_at (Length c j v) depth b ≡ Nothing
-  item_early h = rw (ne_eqb j 1 h)
+-- where it is not refused
+pub taken_as : (p : Progress) (x : Option Line) (l : Lister) → by_answer (progress_in p) x l ≡ told l x None
+taken_as R.More x l = refl
+taken_as R.Complete x l = refl
 
 -- ---- the end of the stream
 
-pub last_none : (l : Lister) → l.stopped ≡ true → last_line l ≡ Nothing
+pub last_none : (l : Lister) → l.stopped ≡ true → last_line l ≡ None
 unfolding last_line
-last_none l h = ap (λ (x : Bool). cond x Nothing (ended_by (end_of (settled l).frames) (settled l))) h
+last_none l h = ap (λ (x : Bool). cond x None (Some (ended_by (end_of (settled l).frames) (settled l)))) h
 
-pub last_as : (l s : Lister) (n : ℕ) → l.stopped ≡ false → s ≡ settled l → n ≡ end_of s.frames → last_line l ≡ ended_by n s
+pub last_as : (l s : Lister) (n : ℕ) → l.stopped ≡ false → s ≡ settled l → n ≡ end_of s.frames → last_line l ≡ Some (ended_by n s)
 unfolding last_line
 last_as l s n h e m =
-    ap (λ (x : Bool). cond x Nothing (ended_by (end_of (settled l).frames) (settled l))) h
-    ∙ ap (λ (x : Lister). ended_by (end_of x.frames) x) (sym e)
-    ∙ ap (λ (k : ℕ). ended_by k s) (sym m)
+    ap (λ (x : Bool). cond x None (Some (ended_by (end_of (settled l).frames) (settled l)))) h
+    ∙ ap (λ (x : Lister). Some (ended_by (end_of x.frames) x)) (sym e)
+    ∙ ap (λ (k : ℕ). Some (ended_by k s)) (sym m)
+
+pub ended_clean : (s : Lister) → ended_by 0 s ≡ End s.count s.bytes
+unfolding ended_by
+ended_clean s = refl
+
+pub ended_broken : (e : Cause) (s : Lister) → ended_by (number_of e) s ≡ Refusal (number_of e) s.bytes
+unfolding ended_by
+ended_broken e s = rw (ne_eqb (number_of e) 0 (λ z. omega (arith, z, some_number e)))

@@ -1,30 +1,30 @@
 -- Which lines each byte of a captured stream gives, and its end: what the fed frame reader and the fed text reader answer, as lines.
-use Rattle.std.specs.Prelude.{ℕ, ◌+◌, ◌*◌, ◌%◌, ◌^◌, Bool, true, false, cond, [], ◌∷◌, ◌==◌}
+use Rattle.std.specs.Prelude.{ℕ, ◌+◌, ◌*◌, ◌%◌, ◌^◌, Bool, true, false, cond, [], ◌∷◌, ◌==◌, Option, Some, None}
 use Rattle.frame.specs.declared.Header.{Header}
 use Rattle.frames.specs.State.{head, reader_of as frame_reader_of}
 use Rattle.frames.specs.Feed.{end_of, fed_of as frame_fed}
-use Rattle.frames.specs.declared.Event.{Event}
-use Rattle.frames.specs.declared.Event.TheVariants as E
+use Rattle.frames.specs.Event.{Event}
+use Rattle.frames.specs.Event as E
 use Rattle.frames.specs.declared.FrameReader.{FrameReader}
 use Rattle.item.specs.declared.Form.TheVariants.{Good as good}
 use Rattle.reader.specs.State.{fresh, reader_of}
 use Rattle.reader.specs.Feed.{status, fed_of}
-use Rattle.reader.specs.declared.Answer.{Answer}
-use Rattle.reader.specs.declared.Answer.TheVariants as A
+use Rattle.reader.specs.Answer.{Answer}
+use Rattle.reader.specs.Answer as A
 use Rattle.reader.specs.declared.Phase.{Phase}
 use Rattle.reader.specs.declared.Phase.TheVariants as P
 use Rattle.reader.specs.declared.Reader.{Reader}
 use Rattle.lines.specs.declared.Line.{Line}
-use Rattle.lines.specs.declared.Line.TheVariants.{Nothing, Message, Item, Refusal, End}
+use Rattle.lines.specs.declared.Line.TheVariants.{Message, Item, Refusal, End}
 use Rattle.capture.specs.declared.Lister.{Lister}
 use Rattle.capture.specs.declared.Told.{Told}
 
 -- a lister, and the lines that a byte gives
-abbrev pub told : Lister → Line → Line → Told
+abbrev pub told : Lister → Option Line → Option Line → Told
 told l x y = record { lister = l; first = x; second = y }
 
 -- a line, and behind it that of t
-abbrev pub behind : Line → Told → Told
+abbrev pub behind : Option Line → Told → Told
 behind x t = told t.lister x t.first
 
 -- one more, of 2^64
@@ -52,19 +52,19 @@ fresh_lister =
 
 -- X: refusal number, stream bytes; then it stops
 unfoldable pub refused_by : ℕ → Lister → Told
-refused_by e l = told (stopped l) (Refusal e l.bytes) Nothing
+refused_by e l = told (stopped l) (Some (Refusal e l.bytes)) None
 
 -- I is written after the last length byte: v is what the length bytes before it say
-abbrev pub item_at : Phase → ℕ → ℕ → Line
-item_at P.Format depth b = Nothing
-item_at (P.Length c j v) depth b = cond (j == 1) (Item depth c (v * 256 + b)) Nothing
-item_at (P.Content c l) depth b = Nothing
-item_at (P.Refused e) depth b = Nothing
+abbrev pub item_at : Phase → ℕ → ℕ → Option Line
+item_at P.Format depth b = None
+item_at (P.Length c j v) depth b = cond (j == 1) (Some (Item depth c (v * 256 + b))) None
+item_at (P.Content c l) depth b = None
+item_at (P.Refused e) depth b = None
 
 -- unless refused
-abbrev pub by_answer : Answer → Line → Lister → Told
-by_answer A.More x l = told l x Nothing
-by_answer A.Complete x l = told l x Nothing
+abbrev pub by_answer : Answer → Option Line → Lister → Told
+by_answer A.More x l = told l x None
+by_answer A.Complete x l = told l x None
 by_answer (A.Refusal e) x l = refused_by e l
 
 -- a text byte is fed to the text reader where the text is listed
@@ -72,7 +72,7 @@ unfoldable pub text_byte : Lister → ℕ → Told
 text_byte l b =
     cond l.listed
     (let f = fed_of l.text (b ∷ []) in by_answer f.answer (item_at l.text.phase l.text.level b) (with_text l f.reader true))
-    (told l Nothing Nothing)
+    (told l None None)
 
 -- items are listed for PType 0 and SType 0
 abbrev pub is_data : Header → Bool
@@ -81,14 +81,14 @@ is_data h = cond (h.ptype == 0) (h.stype == 0) false
 -- M is written after the header; a text that no good one begins with is refused before its first byte
 unfoldable pub header_came : Lister → Header → ℕ → Told
 header_came l h n =
-    behind (Message h n)
-    (cond (is_data h) (by_answer (status (fresh good n)) Nothing (with_text l (reader_of (fresh good n)) true)) (told (with_text l l.text false) Nothing Nothing))
+    behind (Some (Message h n))
+    (cond (is_data h) (by_answer (status (fresh good n)) None (with_text l (reader_of (fresh good n)) true)) (told (with_text l l.text false) None None))
 
 abbrev pub by_event : Event → ℕ → Lister → Told
-by_event E.More b l = told l Nothing Nothing
+by_event E.More b l = told l None None
 by_event (E.Header h n) b l = header_came l h n
 by_event (E.Text k) b l = text_byte l b
-by_event E.End b l = told l Nothing Nothing
+by_event E.End b l = told l None None
 by_event (E.Refusal e) b l = refused_by e l
 
 -- behind a frame's last byte comes its end
@@ -107,7 +107,7 @@ unfoldable pub fed_byte : Lister → ℕ → Told
 fed_byte l b = let f = frame_fed l.frames (b ∷ []) in by_event f.event b (with_frames l f.reader l.count (one_more l.bytes))
 
 unfoldable pub byte_told : Lister → ℕ → Told
-byte_told l b = cond l.stopped (told l Nothing Nothing) (fed_byte (settled l) b)
+byte_told l b = cond l.stopped (told l None None) (fed_byte (settled l) b)
 
 -- ---- the end of the stream
 
@@ -115,5 +115,5 @@ byte_told l b = cond l.stopped (told l Nothing Nothing) (fed_byte (settled l) b)
 unfoldable pub ended_by : ℕ → Lister → Line
 ended_by number l = cond (number == 0) (End l.count l.bytes) (Refusal number l.bytes)
 
-unfoldable pub last_line : Lister → Line
-last_line l = cond l.stopped Nothing (ended_by (end_of (settled l).frames) (settled l))
+unfoldable pub last_line : Lister → Option Line
+last_line l = cond l.stopped None (Some (ended_by (end_of (settled l).frames) (settled l)))

@@ -1,18 +1,22 @@
+// Which lines each byte of a captured stream gives, and its end.
 #![tactic(auto)]
 
 ghost use Rattle.std.specs.Prelude.{◌≡◌, true};
+ghost use Rattle.refusal.specs.Number.{number_of};
 ghost use Rattle.reader.specs.Feed.{allows};
-ghost use Rattle.capture.specs.Capture.{told, one_more, with_frames, with_text, fresh_lister, refused_by, item_at};
-ghost use Rattle.capture.specs.Capture.{text_byte, is_data, header_came, settled, fed_byte, byte_told, ended_by, last_line};
+ghost use Rattle.capture.specs.Capture.{told, one_more, fresh_lister, refused_by, item_at};
+ghost use Rattle.capture.specs.Capture.{text_byte, is_data, header_came, settled, fed_byte, byte_told, last_line};
 
 use frame::Header;
 use frames::{Event, FrameReader};
 use item::Form;
 use lines::Line;
-use reader::{Answer, Phase, Reader};
+use reader::{Phase, Reader};
+use refusal::Refusal;
 
-// The readers of the stream's frames and of the text that comes, whether that text is listed, whether the listing has stopped, and the frames and bytes that
-// came.
+// Two flags beside the readers, as the definitions have them: the text's reader stays as it is while no text is listed.
+/// The readers of the stream's frames and of the text that comes, whether that text is listed, whether the listing has stopped, and the frames and bytes that
+/// came.
 #[derive(Clone, Copy)]
 pub struct Lister {
     pub frames: FrameReader,
@@ -23,15 +27,15 @@ pub struct Lister {
     pub bytes: u64,
 }
 
-// The lister after a byte, and the lines that the byte gives.
+/// The lister after a byte, and the lines that the byte gives.
 #[derive(Clone, Copy)]
 pub struct Told {
     pub lister: Lister,
-    pub first: Line,
-    pub second: Line,
+    pub first: Option<Line>,
+    pub second: Option<Line>,
 }
 
-fn told_of(lister: Lister, first: Line, second: Line) -> Told
+fn told_of(lister: Lister, first: Option<Line>, second: Option<Line>) -> Told
     ensures { result ≡ told lister first second }
 {
     Told {
@@ -41,52 +45,14 @@ fn told_of(lister: Lister, first: Line, second: Line) -> Told
     }
 }
 
-// ---- a lister with one part changed
-
-fn with_frames(l: Lister, frames: FrameReader, count: u64, bytes: u64) -> Lister
-    ensures { result ≡ with_frames l frames count bytes }
-{
-    let text = l.text;
-    Lister {
-        frames,
-        text,
-        listed: l.listed,
-        stopped: l.stopped,
-        count,
-        bytes,
-    }
-}
-
-fn with_text(l: Lister, text: Reader, listed: bool) -> Lister
-    ensures { result ≡ with_text l text listed }
-{
-    let frames = l.frames;
-    Lister {
-        frames,
-        text,
-        listed,
-        stopped: l.stopped,
-        count: l.count,
-        bytes: l.bytes,
-    }
-}
-
 fn stop(l: Lister) -> Lister
     ensures { result ≡ Rattle.capture.specs.Capture.stopped l }
 {
-    let frames = l.frames;
-    let text = l.text;
-    Lister {
-        frames,
-        text,
-        listed: l.listed,
-        stopped: true,
-        count: l.count,
-        bytes: l.bytes,
-    }
+    Lister { stopped: true, ..l }
 }
 
-// A lister before a stream.
+/// A lister before a stream.
+#[tactic(auto, unfolding(crate::specs::Capture::fresh_lister))]
 pub fn fresh_lister() -> Lister
     ensures { result ≡ fresh_lister }
 {
@@ -103,87 +69,81 @@ pub fn fresh_lister() -> Lister
 fn one_more(n: u64) -> u64
     ensures { result ≡ one_more n }
 {
-    std::num::wrapping_add_u64(n, 1)
+    n.wrapping_add(1)
 }
 
 // ---- a byte
 
 // X, behind which the listing has stopped.
-fn refuse(l: Lister, number: u32) -> Told
-    ensures { result ≡ refused_by number l }
+#[tactic(auto, unfolding(crate::specs::Capture::refused_by))]
+fn refuse(l: Lister, refusal: Refusal) -> Told
+    ensures { result ≡ refused_by (number_of refusal) l }
 {
-    told_of(stop(l), Line::Refusal(number, l.bytes), Line::Nothing)
+    told_of(
+        stop(l),
+        Some(Line::Refusal(u32::from(refusal), l.bytes)),
+        None,
+    )
 }
 
 // I behind an item's last length byte.
-fn item_came(text: Reader, b: u8) -> Line
+fn item_came(text: Reader, b: u8) -> Option<Line>
     requires { allows text ≡ true }
     ensures { result ≡ item_at text.phase text.level b }
 {
-    let depth = text.level;
-    let phase = text.phase;
-    match phase {
-        Phase::Format => Line::Nothing,
-        Phase::Length { code, left, value } => if left == 1 {
-            Line::Item(depth, code, value * 256 + (b as usize))
-        } else {
-            Line::Nothing
-        },
-        Phase::Content { code: _, left: _ } => Line::Nothing,
-        Phase::Refused(_) => Line::Nothing,
+    match text.phase {
+        Phase::Length { code, left, value } if left == 1 => Some(Line::Item(
+            text.level,
+            code,
+            value * 256 + b as usize,
+        )),
+        _ => None,
     }
 }
 
-// A byte of a text that is listed.
-fn listed_byte(l: Lister, b: u8) -> Told
-    requires { l.listed ≡ true }
-    ensures { result ≡ text_byte l b }
-{
-    let text = l.text;
-    let f = reader::feed(text, &[b]);
-    let answer = f.answer;
-    let next = f.reader;
-    let t = with_text(l, next, true);
-    match answer {
-        Answer::More => told_of(t, item_came(text, b), Line::Nothing),
-        Answer::Complete => told_of(t, item_came(text, b), Line::Nothing),
-        Answer::Refusal(number) => refuse(t, number),
-    }
-}
-
+// A text byte is read where the text is listed.
 fn text_byte(l: Lister, b: u8) -> Told
     ensures { result ≡ text_byte l b }
 {
-    if l.listed {
-        listed_byte(l, b)
-    } else {
-        told_of(l, Line::Nothing, Line::Nothing)
+    if !l.listed {
+        return told_of(l, None, None);
+    }
+    let fed = reader::feed(l.text, &[b]);
+    let t = Lister {
+        text: fed.reader,
+        listed: true,
+        ..l
+    };
+    match fed.answer {
+        Ok(_) => told_of(t, item_came(l.text, b), None),
+        Err(refusal) => refuse(t, refusal),
     }
 }
 
+#[tactic(auto, using(std::proofs::lemmas::Bool::Decides::nat_tests))]
 fn is_data(h: Header) -> bool
     ensures { result ≡ is_data h }
 {
-    if h.ptype == 0 { h.stype == 0 } else { false }
+    h.ptype == 0 && h.stype == 0
 }
 
 // M, and the text's reader, which may refuse before a byte.
 fn header_came(l: Lister, h: Header, n: usize) -> Told
     ensures { result ≡ header_came l h n }
 {
-    let m = Line::Message(h, n);
-    let text = l.text;
-    if is_data(h) {
-        let fresh = reader::fresh_reader(Form::Good, n);
-        let t = with_text(l, fresh, true);
-        let answer = reader::status_of(fresh);
-        match answer {
-            Answer::More => told_of(t, m, Line::Nothing),
-            Answer::Complete => told_of(t, m, Line::Nothing),
-            Answer::Refusal(number) => told_of(stop(t), m, Line::Refusal(number, t.bytes)),
-        }
-    } else {
-        told_of(with_text(l, text, false), m, Line::Nothing)
+    let m = Some(Line::Message(h, n));
+    if !is_data(h) {
+        return told_of(Lister { listed: false, ..l }, m, None);
+    }
+    let text = reader::fresh_reader(Form::Good, n);
+    let t = Lister {
+        text,
+        listed: true,
+        ..l
+    };
+    match reader::status_of(text) {
+        Ok(_) => told_of(t, m, None),
+        Err(refusal) => told_of(stop(t), m, Some(Line::Refusal(u32::from(refusal), t.bytes))),
     }
 }
 
@@ -191,42 +151,47 @@ fn header_came(l: Lister, h: Header, n: usize) -> Told
 fn settle(l: Lister) -> Lister
     ensures { result ≡ settled l }
 {
-    let old = l.frames;
-    let f = frames::feed(old, &[]);
-    let event = f.event;
-    let next = f.reader;
-    match event {
-        Event::More => l,
-        Event::Header(_, _) => l,
-        Event::Text(_) => l,
-        Event::End => with_frames(l, next, one_more(l.count), l.bytes),
-        Event::Refusal(_) => l,
+    let fed = frames::feed(l.frames, &[]);
+    match fed.event {
+        Ok(event) => match event {
+            Event::End => Lister {
+                frames: fed.reader,
+                count: one_more(l.count),
+                ..l
+            },
+            _ => l,
+        },
+        Err(_) => l,
     }
 }
 
 fn feed_byte(l: Lister, b: u8) -> Told
     ensures { result ≡ fed_byte l b }
 {
-    let old = l.frames;
-    let f = frames::feed(old, &[b]);
-    let event = f.event;
-    let next = f.reader;
-    let t = with_frames(l, next, l.count, one_more(l.bytes));
-    match event {
-        Event::More => told_of(t, Line::Nothing, Line::Nothing),
-        Event::Header(h, n) => header_came(t, h, n),
-        Event::Text(_) => text_byte(t, b),
-        Event::End => told_of(t, Line::Nothing, Line::Nothing),
-        Event::Refusal(number) => refuse(t, number),
+    let fed = frames::feed(l.frames, &[b]);
+    let t = Lister {
+        frames: fed.reader,
+        bytes: one_more(l.bytes),
+        ..l
+    };
+    match fed.event {
+        Ok(event) => match event {
+            Event::Header(h, n) => header_came(t, h, n),
+            Event::Text(_) => text_byte(t, b),
+            Event::More => told_of(t, None, None),
+            Event::End => told_of(t, None, None),
+        },
+        Err(refusal) => refuse(t, refusal),
     }
 }
 
-// One byte of the stream.
+/// One byte of the stream.
+#[tactic(auto, unfolding(crate::specs::Capture::byte_told))]
 pub fn byte_came(l: Lister, b: u8) -> Told
     ensures { result ≡ byte_told l b }
 {
     if l.stopped {
-        told_of(l, Line::Nothing, Line::Nothing)
+        told_of(l, None, None)
     } else {
         feed_byte(settle(l), b)
     }
@@ -234,24 +199,16 @@ pub fn byte_came(l: Lister, b: u8) -> Told
 
 // ---- the end of the stream
 
-fn ended(l: Lister, number: u32) -> Line
-    ensures { result ≡ ended_by number l }
-{
-    if number == 0 {
-        Line::End(l.count, l.bytes)
-    } else {
-        Line::Refusal(number, l.bytes)
-    }
-}
-
-// The line behind the last byte.
-pub fn last_line(l: Lister) -> Line
+/// The line behind the last byte.
+pub fn last_line(l: Lister) -> Option<Line>
     ensures { result ≡ last_line l }
 {
     if l.stopped {
-        return Line::Nothing;
+        return None;
     }
     let s = settle(l);
-    let last = s.frames;
-    ended(s, frames::end_number(last))
+    Some(match frames::end(s.frames) {
+        Ok(()) => Line::End(s.count, s.bytes),
+        Err(refusal) => Line::Refusal(u32::from(refusal), s.bytes),
+    })
 }

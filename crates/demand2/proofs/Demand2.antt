@@ -25,8 +25,8 @@ use Rattle.rows.proofs.Tables.{table_length, rows_table}
 use Rattle.rows.proofs.Trees.{tree_each, tree_text, tree_size, tree_spells, tree_once}
 use Rattle.rows.proofs.Walk.{text_walked, text_has, good_sound}
 use Rattle.text.specs.Text.{judged_of, read_of, part_number_as, part_number, part_of}
-use Rattle.wire.specs.declared.Counted.{Counted}
-use Rattle.wire.specs.declared.Counted.TheVariants.{Is, Refused}
+use Rattle.refusal.specs.Answer.{Counted}
+use Rattle.refusal.specs.Answer.{Is, Refused}
 use Rattle.text.proofs.Judged.{judged_good, judged_range}
 use Rattle.writer.specs.Writing.{rows_number, table_number, used_of, written_of, leaned_of}
 use Rattle.wire.specs.Lent.{out_after}

@@ -16,8 +16,8 @@ use Rattle.reader.specs.State.{fresh}
 use Rattle.reader.specs.Step.{known, at_format, at_list, at_plain, at_length, at_content, step_at, step}
 use Rattle.reader.specs.Feed.{allows_phase, allows_frame, allows_end, allows, status, eat, fed_of}
 use Rattle.rows.specs.Rows.{item_rows}
-use Rattle.wire.specs.declared.Counted.{Counted}
-use Rattle.wire.specs.declared.Counted.TheVariants.{Is}
+use Rattle.refusal.specs.Answer.{Counted}
+use Rattle.refusal.specs.Answer.{Is}
 use Rattle.demand2.specs.Starred.{LeanForm, not_given, given, Line, LeanRight, outcome, Answered, Right, table, wide_lines, lean_only_lines}
 use Rattle.demand2.proofs.Demand2.{in_one_call}
 

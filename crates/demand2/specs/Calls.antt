@@ -3,7 +3,7 @@ use Rattle.std.specs.Prelude.{List, length, ℕ}
 use Rattle.rows.specs.Row.{rows_of, text_of}
 use Rattle.rows.specs.Rows.{rows_in}
 use Rattle.text.specs.Text.{read_of, table_after}
-use Rattle.wire.specs.declared.Counted.{Counted}
+use Rattle.refusal.specs.Answer.{Counted}
 use Rattle.writer.specs.Writing.{written_of, leaned_of, rows_after}
 use Rattle.wire.specs.Lent.{out_after}
 

@@ -7,9 +7,8 @@ use Rattle.item.specs.declared.Form.{Form}
 use Rattle.item.specs.declared.Form.TheVariants.{Good as good}
 use Rattle.reader.specs.State.{reader_of, fresh}
 use Rattle.reader.specs.Feed.{fed_of}
-use Rattle.reader.specs.declared.Answer.{Answer}
-use Rattle.reader.specs.declared.Answer.TheVariants.{More, Complete, Refusal}
-use Rattle.wire.specs.declared.Counted.TheVariants.{Is}
+use Rattle.reader.specs.Answer.{Answer, More, Complete, Refusal}
+use Rattle.refusal.specs.Answer.{Is}
 use Rattle.demand2.specs.Calls.{write_lean}
 
 -- the lean form of a good text, where the document gives it: the tree that the text spells, and the lean bytes

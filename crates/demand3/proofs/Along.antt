@@ -22,7 +22,7 @@ use Rattle.reader.specs.Place.{Role, content_byte, number_at}
 use Rattle.reader.proofs.Rest.{RestAt, Rest, LiveAt, Live}
 use Rattle.reader.specs.declared.Phase.{Phase}
 use Rattle.reader.specs.declared.Phase.TheVariants.{Format}
-use Rattle.reader.specs.declared.Answer.TheVariants.{More}
+use Rattle.reader.specs.Answer.{More}
 use Rattle.reader.proofs.Right.{Out, goes, ends, Right, role_in, step_right}
 use Rattle.reader.proofs.Eats.{more_left}
 use Rattle.reader.proofs.Fresh.{one_live}

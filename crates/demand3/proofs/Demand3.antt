@@ -17,8 +17,7 @@ use Rattle.reader.specs.Feed.{status_at, status, fed_of}
 use Rattle.reader.proofs.Rest.{RestAt, LiveAt}
 use Rattle.reader.specs.declared.Phase.{Phase}
 use Rattle.reader.specs.declared.Phase.TheVariants.{Format, Length, Content, Refused}
-use Rattle.reader.specs.declared.Answer.{Answer}
-use Rattle.reader.specs.declared.Answer.TheVariants.{More, Complete, Refusal}
+use Rattle.reader.specs.Answer.{Answer, More, Complete, Refusal}
 use Rattle.reader.proofs.Eats.{more_left}
 use Rattle.demand3.specs.Begins.{Begins}
 use Rattle.demand3.specs.Feeds.{feeds, answer_to}

@@ -13,9 +13,7 @@ use Rattle.reader.specs.Step.{step}
 use Rattle.reader.specs.Feed.{allows, status, fed, after, eat, start, fed_of}
 use Rattle.reader.specs.declared.Phase.TheVariants.{Format}
 use Rattle.reader.specs.declared.Reader.{Reader}
-use Rattle.reader.specs.declared.Fed.{Fed}
-use Rattle.reader.specs.declared.Answer.{Answer}
-use Rattle.reader.specs.declared.Answer.TheVariants.{More, Complete, Refusal}
+use Rattle.reader.specs.Answer.{Answer, More, Complete, Refusal, Fed}
 use Rattle.reader.proofs.Allowed.{state_reader, live_allows, refused_allows}
 use Rattle.reader.proofs.Fresh.{none_live}
 use Rattle.demand3.specs.Feeds.{feeds, answer_to}

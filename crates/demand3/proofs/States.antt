@@ -21,8 +21,7 @@ use Rattle.reader.proofs.Rest.{RestAt, Rest, LiveAt, Live}
 use Rattle.reader.specs.declared.Phase.{Phase}
 use Rattle.reader.specs.declared.Phase.TheVariants.{Format, Length, Content, Refused}
 use Rattle.reader.specs.declared.Reader.{Reader}
-use Rattle.reader.specs.declared.Answer.{Answer}
-use Rattle.reader.specs.declared.Answer.TheVariants.{More, Complete, Refusal}
+use Rattle.reader.specs.Answer.{Answer, More, Complete, Refusal}
 use Rattle.reader.proofs.Right.{Out, goes, ends, step_right, after_known}
 use Rattle.reader.proofs.Allowed.{Going, allows_held}
 use Rattle.reader.proofs.Eats.{end_complete, more_left}

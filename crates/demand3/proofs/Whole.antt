@@ -14,8 +14,7 @@ use Rattle.reader.specs.State.{state_of, reader_of, fresh}
 use Rattle.reader.specs.Step.{known}
 use Rattle.reader.specs.Feed.{status, fed_of}
 use Rattle.reader.specs.Place.{Role, format_byte, length_byte, content_byte, number_at}
-use Rattle.reader.specs.declared.Answer.{Answer}
-use Rattle.reader.specs.declared.Answer.TheVariants.{More, Complete, Refusal}
+use Rattle.reader.specs.Answer.{Answer, More, Complete, Refusal}
 use Rattle.demand3.specs.Begins.{Begins, NumberBehind}
 use Rattle.demand3.specs.Feeds.{answer_to}
 use Rattle.demand3.specs.Verdict.{Verdict, goes_on, complete, before_any, at_byte, Whole, is_formed, not_formed}

@@ -2,8 +2,7 @@
 use Rattle.std.specs.Prelude.{ℕ, suc, ◌≤◌, ◌<◌, List, [], ◌∷◌, ◌++◌, ◌≡◌, length, take}
 use Rattle.item.specs.Item.{Formed}
 use Rattle.item.specs.declared.Form.{Form}
-use Rattle.reader.specs.declared.Answer.{Answer}
-use Rattle.reader.specs.declared.Answer.TheVariants.{More, Complete, Refusal}
+use Rattle.reader.specs.Answer.{Answer, More, Complete, Refusal}
 use Rattle.demand3.specs.Begins.{Begins, NumberBehind}
 
 -- What the form and N, the bytes w of all pieces, the bytes k consumed in all and the answer have to do with each other. With more the whole of w was

@@ -1,3 +1,3 @@
-pub mod OfStream
+pub mod Judged
 pub mod Rows
 pub mod Determined

@@ -16,7 +16,7 @@ use Rattle.message.specs.declared.Text.TheVariants.{Empty, About}
 use Rattle.state.specs.State.{with_received, own_freed}
 use Rattle.state.specs.declared.Device.{Device}
 use Rattle.device.specs.Rows.{answer, told, takes, sent, complain_of, secondary_of, opened_of, primary_of, data_of}
-use Rattle.device.specs.declared.Acted.{Acted}
+use Rattle.device.specs.Acted.{Acted}
 
 -- a primary to this device
 pub record Primary (d : Device) (h : Header) : Type 0 where

@@ -9,11 +9,10 @@ use Rattle.slots.specs.declared.Query.TheVariants.{Free, Named, Answered}
 use Rattle.text.specs.Text.{judged_of}
 use Rattle.message.specs.declared.Text.{Text}
 use Rattle.message.specs.declared.Text.TheVariants.{Empty, About, Wished}
-use Rattle.message.specs.declared.Send.{Send}
-use Rattle.message.specs.declared.Send.TheVariants.{Nothing, Message}
+use Rattle.message.specs.Send.{Send, Nothing, Message}
 use Rattle.state.specs.State.{with_received, with_own, with_flag, received_freed, own_freed}
 use Rattle.state.specs.declared.Device.{Device}
-use Rattle.device.specs.declared.Acted.{Acted}
+use Rattle.device.specs.Acted.{Acted}
 
 -- ---- what a row answers
 

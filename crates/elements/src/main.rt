@@ -1,96 +1,48 @@
+// Elements answered and set, as lines on standard input say (docs/CALLS.md).
 #![tactic(auto)]
 
-use element::{Element, Got};
-use hexes::Said;
-use wire::{Bits, Counted, Width};
+use driver::{Answer, Program, Stdout};
+use element::Element;
+use std::fmt;
+use std::fmt::Write;
+use wire::Width;
 
-// standard input, as a file descriptor
-const STDIN: i32 = 0;
+// An element's sort, and behind a tab its number, or its bits in hex.
+#[derive(Clone, Copy)]
+struct Fields(Element);
 
-// standard output
-const STDOUT: i32 = 1;
-
-// ---- fields out
-
-fn put(s: &[u8]) {
-    io::write_all(STDOUT, s);
-}
-
-fn decimal(n: usize) {
-    put(b"\t");
-    io::print_decimal(STDOUT, n as u64);
-}
-
-fn digits(s: &[u8]) {
-    let mut out = records::room();
-    put(b"\t");
-    match hexes::hex_of(s, &mut out) {
-        Counted::Is(n) => if n <= out.len() {
-            put(&out[0..n]);
-        },
-        Counted::Refused(number) => decimal(number as usize),
-    }
-}
-
-// A word, and a number's bits in so many hex digits.
-fn bits(word: &[u8], n: u64, size: usize) {
-    put(word);
-    io::print_hex(STDOUT, n, size);
-}
-
-fn signed_bits(x: i64) -> u64 {
-    match wire::unsigned(Width::Eight, x) {
-        Bits::Are(n) => n,
-        Bits::Out => 0,
-    }
-}
-
-fn element_fields(e: Element) {
-    match e {
-        Element::Signed(x) => bits(b"\tsigned\t", signed_bits(x), 16),
-        Element::Unsigned(n) => {
-            put(b"\tunsigned\t");
-            io::print_decimal(STDOUT, n);
+impl fmt::Display for Fields {
+    fn fmt<W: fmt::Write>(&self, f: &mut fmt::Formatter<W>) -> fmt::Result {
+        match self.0 {
+            Element::Signed(x) => {
+                let bits = wire::unsigned(Width::Eight, x).unwrap_or(0);
+                write!(f, "signed\t{bits:016x}")
+            }
+            Element::Unsigned(n) => write!(f, "unsigned\t{n}"),
+            Element::F4(x) => write!(f, "f4\t{:08x}", element::f4_bits(x)),
+            Element::F8(x) => write!(f, "f8\t{:016x}", element::f8_bits(x)),
+            Element::Byte(b) => write!(f, "byte\t{b}"),
+            Element::F4Bits(bits) => write!(f, "f4\t{bits:08x}"),
+            Element::F8Bits(bits) => write!(f, "f8\t{bits:016x}"),
         }
-        Element::F4(x) => bits(b"\tf4\t", element::f4_bits(x) as u64, 8),
-        Element::F8(x) => bits(b"\tf8\t", element::f8_bits(x), 16),
-        Element::Byte(b) => {
-            put(b"\tbyte");
-            decimal(b as usize);
-        }
-        Element::F4Bits(n) => bits(b"\tf4\t", n as u64, 8),
-        Element::F8Bits(n) => bits(b"\tf8\t", n, 16),
     }
 }
-
-fn bad() {
-    put(b"bad record\n");
-}
-
-// ---- a record
 
 // code (4), place (4), content
-fn get(b: &[u8]) {
+fn get(stdout: &mut Stdout, b: &[u8]) -> fmt::Result {
     if b.len() < 8 {
-        bad();
-        return;
+        return driver::bad(stdout);
     }
-    put(b"got");
-    match element::get(
-        records::word_at(b, 0),
-        &b[8..],
-        records::word_at(b, 4) as usize,
-    ) {
-        Got::Is(e) => element_fields(e),
-        Got::Refused(number) => {
-            put(b"\trefused");
-            decimal(number as usize);
-        }
-    }
-    put(b"\n");
+    let code = records::field_at::<4>(b, 0) as u32;
+    let place = records::field_at::<4>(b, 4) as usize;
+    writeln!(
+        stdout,
+        "got{}",
+        Answer(element::get(code, &b[8..], place).map(Fields))
+    )
 }
 
-fn element_in(sort: u8, n: u64) -> Element {
+fn element_in(sort: u64, n: u64) -> Element {
     match sort {
         0 => Element::Signed(wire::signed(Width::Eight, n)),
         1 => Element::Unsigned(n),
@@ -100,73 +52,35 @@ fn element_in(sort: u8, n: u64) -> Element {
     }
 }
 
-fn set_line(code: u32, place: usize, e: Element, content: &mut [u8]) {
-    put(b"set");
-    decimal(element::set(code, content, place, e) as usize);
-    digits(content);
-    put(b"\n");
-}
-
 // code (4), place (4), sort (1), value (8), content
-fn set(b: &mut [u8]) {
+fn set(stdout: &mut Stdout, b: &mut [u8]) -> fmt::Result {
     if b.len() < 17 {
-        bad();
-        return;
+        return driver::bad(stdout);
     }
-    let code = records::word_at(b, 0);
-    let place = records::word_at(b, 4) as usize;
-    let e = element_in(records::byte_at(b, 8), records::double_at(b, 9));
-    set_line(code, place, e, &mut b[17..]);
+    let code = records::field_at::<4>(b, 0) as u32;
+    let place = records::field_at::<4>(b, 4) as usize;
+    let e = element_in(records::field_at::<1>(b, 8), records::field_at::<8>(b, 9));
+    let content = &mut b[17..];
+    let number = driver::number(element::set(code, content, place, e));
+    write!(stdout, "set\t{number}")?;
+    driver::digits(stdout, content)?;
+    stdout.write_str("\n")
 }
 
-fn record(letter: u8, b: &mut [u8]) {
-    match letter {
-        b'g' => get(b),
-        b's' => set(b),
-        _ => bad(),
-    }
-}
+// No record leaves anything behind for the next.
+#[derive(Drop)]
+struct Elements;
 
-// ---- lines
-
-fn line(l: &[u8]) {
-    if l.len() == 0 {
-        return;
-    }
-    let letter = l[0];
-    if letter == b'#' {
-        put(l);
-        put(b"\n");
-        return;
-    }
-    let mut said = records::room();
-    match hexes::bytes_in(&l[1..], &mut said) {
-        Said::Bytes(n) => if n <= said.len() {
-            record(letter, &mut said[0..n]);
-        },
-        Said::Wrong => bad(),
-        Said::Long => bad(),
-    }
-}
-
-fn lines(input: &[u8]) {
-    let mut at: usize = 0;
-    while at < input.len() {
-        let end = records::line_end(input, at);
-        line(&input[at..end]);
-        if end == input.len() {
-            break;
+impl Program for Elements {
+    fn record(&mut self, stdout: &mut Stdout, letter: u8, bytes: &mut [u8]) -> fmt::Result {
+        match letter {
+            b'g' => get(stdout, bytes),
+            b's' => set(stdout, bytes),
+            _ => driver::bad(stdout),
         }
-        at = end + 1;
     }
 }
 
-fn main() {
-    let mut input = records::room();
-    let n = io::read_full(STDIN, &mut input);
-    if n == 1048576 {
-        put(b"too much input\n");
-    } else {
-        lines(&input[0..n]);
-    }
+fn main() -> fmt::Result {
+    driver::run(&mut Elements)
 }

@@ -1,12 +1,14 @@
 -- The tests by quotients, which cannot overflow, are the definition's by products.
-use Prim.Native.Nat.{ℕ, suc, ◌+◌, ◌*◌, ◌-◌, ◌/◌, ◌^◌, ◌≤◌, ◌<◌}
-use mathlib.Core.Path.{◌≡◌, refl, sym, ap, ◌∙◌}
+use Prim.Native.Nat.{ℕ, zero, suc, ◌+◌, ◌*◌, ◌-◌, ◌/◌, ◌^◌, ◌≤◌, ◌<◌}
+use mathlib.Core.Path.{◌≡◌, refl, sym}
 use mathlib.Core.Bool.{Bool, true, false}
-use native.Mathlib.Nat.{le-mul_of_pos_right, pow-succ', div-div-eq-div-mul, le-div_iff_mul-le, div-lt_iff_lt-mul}
+use native.Mathlib.Nat.{le-mul_of_pos_right, pow-suc, pow-le-pow_right, div-eq_of_lt, le-div_iff_mul-le, div-lt_iff_lt-mul}
 use native.Mathlib.Omega.{arith}
-use borrow.Author.Tests.{eq-eqb, ne_eqb, eqb-true, eqb-false, le-leb, lt-leb, leb-true, leb-false, lt-ltb, le-ltb}
-use lib.Dec.{eqb, leb, ltb}
+use Rattle.std.proofs.Common.{pow-add}
+use borrow.Author.Tests.{le-leb, lt-leb, leb-true, leb-false, lt-ltb, le-ltb}
+use lib.Dec.{leb, ltb}
 use Rattle.wire.proofs.Numbers.{power_pos}
+use Rattle.levels.proofs.Laws.{stack_length}
 
 -- two tests that hold together, and fail together
 leb_same : (a b c d : ℕ) → (a ≤ b → c ≤ d) → (b < a → d < c) → leb a b ≡ leb c d
@@ -20,9 +22,19 @@ leb_same a b c d h k = go (leb a b) refl
 pub halves : (n m : ℕ) → leb m (n / 2) ≡ leb (2 * m) n
 halves n m = leb_same m (n / 2) (2 * m) n (λ h. omega arith) (λ h. omega arith)
 
--- one byte more is left off
-pub part_more : (n k : ℕ) → n / 256 / 256 ^ k ≡ n / 256 ^ suc k
-part_more n k = div-div-eq-div-mul n 256 (256 ^ k) ∙ ap (λ (x : ℕ). n / x) (sym (pow-succ' 256 k))
+-- eight bits a byte
+byte_bits : (j : ℕ) → 2 ^ (8 * j) ≡ 256 ^ j
+byte_bits zero = refl
+byte_bits (suc j) =
+    let e : 8 * suc j ≡ 8 * j + 8 = omega arith in
+    rw (e, pow-add 2 (8 * j) 8, byte_bits j) (sym (pow-suc 256 j))
+
+pub shifted : (n j : ℕ) → n / 2 ^ (8 * j) ≡ n / 256 ^ j
+shifted n j = rw byte_bits
+
+-- of a number of eight bytes nothing is left without eight or more
+pub none_left : (n j : ℕ) → n < 2 ^ 64 → 8 ≤ j → n / 256 ^ j ≡ 0
+none_left n j h k = div-eq_of_lt (omega (arith, pow-le-pow_right {n = 256} (omega arith) {i = 8} {j = j} k))
 
 module _ (v j n : ℕ) where
   -- v with j more bytes, all zero, is at most n
@@ -67,14 +79,6 @@ module _ (v k : ℕ) where
   pub product_none : v * 256 ^ k ≡ 0 → v ≡ 0
   product_none e = omega (arith, le-mul_of_pos_right v (power_pos k))
 
-pub none_both : (m v k : ℕ) (b : Bool) → eqb (m + v) 0 ≡ b → eqb (m + v * 256 ^ k) 0 ≡ b
-none_both m v k true e =
-    let z : m + v ≡ 0 = eqb-true (m + v) 0 e in
-    eq-eqb (m + v * 256 ^ k) 0 (omega (arith, none_product v k (omega arith)))
-none_both m v k false e =
-    let z : m + v ≡ 0 → ⊥ = eqb-false (m + v) 0 e in
-    ne_eqb (m + v * 256 ^ k) 0 (λ q. z (omega (arith, product_none v k (omega arith))))
-
 -- a content and items behind it, two bytes each
 pub holds : (left m v j : ℕ) → m ≤ left / 2 → leb v ((left - 2 * m) / 256 ^ j) ≡ leb (v * 256 ^ j + 2 * m) left
 holds left m v j h =
@@ -84,3 +88,8 @@ holds left m v j h =
 -- j length bytes come off first
 pub room : (n j k m : ℕ) → j ≤ n → leb (j + k + 2 * m) n ≡ leb (k + 2 * m) (n - j)
 room n j k m h = leb_same (j + k + 2 * m) n (k + 2 * m) (n - j) (λ e. omega arith) (λ e. omega arith)
+
+-- what the tests of a list and of another item cite
+pub ruleset at_depth = (stack_length, product_none, none_product)
+
+pub ruleset content_room = (room, beyond, not_beyond)

@@ -37,7 +37,8 @@ unfolding header_bytes header_of
 bytes_back t e h =
     let front = written_back (take 2 t) 2 (length-take-le 2 t (omega (arith, e))) (at_most_take 0xFF 2 t h) in
     let back = written_back (drop 6 t) 4 (simp length-drop (omega (arith, e))) (at_most_drop 0xFF 6 t h) in
-    rw (front, back, ← drop-cons t 5 0 (omega arith), ← drop-cons t 4 0 (omega arith), ← drop-cons t 3 0 (omega arith), ← drop-cons t 2 0 (omega arith)) (take-append-drop 2 t)
+    rw (front, back, ← drop-cons t 5 0 (omega arith), ← drop-cons t 4 0 (omega arith), ← drop-cons t 3 0 (omega arith), ← drop-cons t 2 0 (omega arith))
+    (take-append-drop 2 t)
 
 pub frame_length : (h : Header) (text : List ℕ) → length (frame_of h text) ≡ 14 + length text
 unfolding frame_of

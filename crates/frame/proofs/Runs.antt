@@ -1,4 +1,4 @@
--- Three runs of stores from place 0, each behind the one before, are one: a frame's and a header's parts are written so.
+-- Three runs of stores from place 0, each behind the one before, are one: a frame's parts are written so.
 use Prim.Native.Nat.{ℕ, ◌+◌}
 use mathlib.Core.Path.{◌≡◌, ap, ap₂, ◌∙◌}
 use mathlib.Core.List.{List, ◌++◌, append_assoc}

@@ -2,8 +2,7 @@
 use Rattle.std.specs.Prelude.{ℕ, ◌+◌, cond, List, ◌++◌, eqb, leb, ltb, length, take}
 use Rattle.wire.specs.Longest.{longest}
 use Rattle.wire.specs.Number.{number_of, bytes_of}
-use Rattle.wire.specs.declared.Counted.{Counted}
-use Rattle.wire.specs.declared.Counted.TheVariants.{Is, Refused}
+use Rattle.refusal.specs.Answer.{Counted, Is, Refused}
 use Rattle.frame.specs.Header.{header_bytes}
 use Rattle.frame.specs.declared.Header.{Header}
 

@@ -10,7 +10,7 @@ use Rattle.frame.specs.Frame.{length_in, length_number, kind_number}
 use Rattle.frame.specs.Header.{header_of}
 use Rattle.frames.specs.State.{State, head, text, refused}
 use Rattle.frames.specs.Feed.{head_number, after, event_at, fed, pushed}
-use Rattle.frames.specs.declared.Event.TheVariants.{More, Header, Refusal}
+use Rattle.frames.specs.Event.{More, Header, Refusal}
 
 -- only the first four bytes say the length
 pub length_front : (bs more : List ℕ) → 4 ≤ length bs → length_in (bs ++ more) ≡ length_in bs
@@ -52,7 +52,8 @@ pushed_at t s e = rw e
 pub pushed_refused : (t : List ℕ) (e : ℕ) → e ≡ head_number t → (e ≡ 0 → ⊥) → fed (Refusal e) 1 (refused e) ≡ pushed t
 pushed_refused t e p h = pushed_at t (refused e) (after_refused t (λ z. h (p ∙ z)) ∙ ap refused (sym p))
 
-pub pushed_whole : (t : List ℕ) → head_number t ≡ 0 → length t ≡ 14 → fed (Header (header_of (drop 4 t)) (length_in t - 10)) 1 (text (length_in t - 10)) ≡ pushed t
+pub pushed_whole : (t : List ℕ) → head_number t ≡ 0 → length t ≡ 14
+    → fed (Header (header_of (drop 4 t)) (length_in t - 10)) 1 (text (length_in t - 10)) ≡ pushed t
 pushed_whole t h n = pushed_at t (text (length_in t - 10)) (after_whole t h n)
 
 pub pushed_more : (t : List ℕ) → head_number t ≡ 0 → (length t ≡ 14 → ⊥) → fed More 1 (head t) ≡ pushed t

@@ -1,4 +1,5 @@
--- What a reader holds: its array is the bytes of a head that came and 00 behind them, a byte more keeps it so, and a state that the list allows is the reader of a state.
+-- What a reader holds: its array is the bytes of a head that came and 00 behind them, a byte more keeps it so,
+-- and a state that the list allows is the reader of a state.
 use Prim.Native.Nat.{ℕ, suc, ◌+◌, ◌-◌, ◌≤◌, ◌<◌}
 use mathlib.Core.Path.{◌≡◌, refl, sym, ap, ap₂, subst, ◌∙◌}
 use mathlib.Core.Bool.{Bool, true, false, cond}
@@ -6,14 +7,15 @@ use mathlib.Core.List.{List, [], ◌∷◌, ◌++◌, append-nil}
 use mathlib.Core.Logic.{◌⊎◌, inl, inr}
 use native.Mathlib.Nat.{eq-or-lt_of_le}
 use native.Mathlib.Omega.{arith}
-use borrow.Author.Tests.{eqb-true, eqb-false, ltb-true, le-ltb}
-use lib.Dec.{eqb, ltb}
+use borrow.Author.Tests.{eqb-true, eqb-false, ltb-true, le-ltb, leb-true}
+use lib.Dec.{eqb, ltb, leb}
 use lib.ListN.{length, take, drop, set, replicate, length-append, length-drop, take-append-drop}
 use lib.Seq.{take-append_seam, set-append_seam, append_snoc, length-take-le}
 use Rattle.wire.proofs.Choice.{both}
 use Rattle.frame.specs.Frame.{length_in, length_number}
 use Rattle.frames.specs.State.{State, head, text, refused, holding, reader_of, state_in, state_of}
-use Rattle.frames.specs.Feed.{all_zero, allows_head, allows_bare, allows_at, allows, head_number, after}
+use Rattle.frames.specs.Feed.{all_zero, allows_head, allows_bare, allows_at, allows, head_number, after, event_at}
+use Rattle.frames.specs.Event.{More}
 use Rattle.frames.specs.Asked.{Begun, Held}
 use Rattle.frames.specs.declared.Phase.{Phase}
 use Rattle.frames.specs.declared.Phase.TheVariants as P
@@ -89,11 +91,10 @@ state_in_phase r p e = ap (λ (q : Phase). state_in q r) e
 
 -- ---- a head that goes on
 
-phase_head : (s : State) → (reader_of s).phase ≡ P.Head → (bs : List ℕ) × (s ≡ head bs)
-unfolding reader_of
-phase_head (head bs) e = (bs, refl)
-phase_head (text n) e = let z : ◌≡◌ {A = ℕ} 0 1 = cc in absurd (omega arith)
-phase_head (refused x) e = let z : ◌≡◌ {A = ℕ} 0 1 = cc in absurd (omega arith)
+more_head : (s : State) (t : List ℕ) → event_at s t ≡ More → (bs : List ℕ) × (s ≡ head bs)
+more_head (head bs) t e = (bs, refl)
+more_head (text n) t e = absurd (cc)
+more_head (refused x) t e = absurd (cc)
 
 picked : (a b : Bool) (n e : ℕ) (t bs : List ℕ) → cond a (cond b (text n) (head t)) (refused e) ≡ head bs → (a ≡ true) × (b ≡ false)
 picked true true n e t bs q = let z : ◌≡◌ {A = ℕ} 0 1 = cc in absurd (omega arith)
@@ -105,10 +106,10 @@ pub record Goes (t : List ℕ) : Type 0 where
   pub number : head_number t ≡ 0
   pub unfinished : length t ≡ 14 → ⊥
 
-pub goes : (t : List ℕ) → (reader_of (after t)).phase ≡ P.Head → Goes t
+pub goes : (t : List ℕ) → event_at (after t) t ≡ More → Goes t
 unfolding after
 goes t e =
-    let h = phase_head (after t) e in
+    let h = more_head (after t) t e in
     let q = picked (eqb (head_number t) 0) (eqb (length t) 14) (length_in t - 10) (head_number t) t h.0 h.1 in
     record { number = eqb-true (head_number t) 0 q.0; unfinished = eqb-false (length t) 14 q.1 }
 
@@ -174,6 +175,14 @@ module _ (r : FrameReader) (full : length r.held ≡ 14) where
 
   pub allows_held : r.phase ≡ P.Head → allows r ≡ true → Held r
   allows_held p e = head_tests p (sym (allows_in r P.Head p) ∙ e)
+
+  -- a refused reader that the list allows has a frame's number
+  pub refused_range : (n : ℕ) → allows r ≡ true → r.phase ≡ P.Refused n → (10 ≤ n) × (n ≤ 12)
+  refused_range n e q =
+      let b = both (allows_bare r) _ (sym (allows_in r (P.Refused n) q) ∙ e) in
+      let z = both (eqb r.left 0) _ b.1 in
+      let a = both (leb 10 n) _ z.1 in
+      (leb-true 10 n a.0, leb-true n 12 a.1)
 
   -- a state that the list allows is the reader of the state that it holds
   pub reader_state : allows r ≡ true → reader_of (state_of r) ≡ r

@@ -7,9 +7,7 @@ use Rattle.frames.specs.State.{State, head, text, refused, reader_of, state_of}
 use Rattle.frames.specs.declared.Phase.{Phase}
 use Rattle.frames.specs.declared.Phase.TheVariants as P
 use Rattle.frames.specs.declared.FrameReader.{FrameReader}
-use Rattle.frames.specs.declared.Event.{Event}
-use Rattle.frames.specs.declared.Event.TheVariants.{More, Header, Text, End, Refusal}
-use Rattle.frames.specs.declared.Fed.{Fed}
+use Rattle.frames.specs.Event.{Event, More, Header, Text, End, Refusal, Fed}
 
 -- ---- the list behind 14
 
@@ -67,7 +65,10 @@ event_at (head bs) t = More
 event_at (text n) t = Header (header_of (drop 4 t)) n
 event_at (refused e) t = Refusal e
 
--- what a private function answers: one byte more of a head
+-- what private functions answer: a refused reader, and one byte more of a head
+abbrev pub refused_after : ℕ → ℕ → Fed
+refused_after e k = fed (Refusal e) k (refused e)
+
 abbrev pub pushed : List ℕ → Fed
 pushed t = fed (event_at (after t) t) 1 (after t)
 

@@ -1,3 +1,4 @@
 pub mod State
+pub mod Event
 pub mod Feed
 pub mod Asked

@@ -5,7 +5,6 @@ use mathlib.Core.Bool.{Bool, true, false, false≢true, cond}
 use mathlib.Core.Path.{◌≡◌, refl, ap, sym, ◌∙◌}
 use native.Mathlib.Nat.{zero-add, suc-add, not-suc-le-zero, le_of_suc-le-suc}
 use native.Mathlib.Decide.{ℕ_discrete, dec_lt}
-use native.Mathlib.Numerals.{sub-one}
 use native.Mathlib.Omega.{arith}
 use borrow.Author.Tests.{eq-eqb, ne_eqb, eqb-true, le-ltb, ltb-false}
 use lib.Dec.{eqb}
@@ -80,10 +79,9 @@ module _ (held : ℕ → Bool) where
   first_here zero n e = refl
   first_here (suc j) n e = rw e
 
-  pub first_next : (j n : ℕ) → 0 < j → held n ≡ true → first_of held j n ≡ first_of held (j - 1) (one_more n)
+  pub first_next : (j k n : ℕ) → j ≡ suc k → held n ≡ true → first_of held j n ≡ first_of held k (one_more n)
   unfolding first_of
-  first_next zero n h e = absurd (not-suc-le-zero h)
-  first_next (suc j) n h e = rw (e, sub-one)
+  first_next j k n d e = rw (d, e)
 
   pub first_last : (n : ℕ) → first_of held 0 n ≡ n
   unfolding first_of
@@ -115,9 +113,9 @@ module _ (own : List Slot) (t : Linktest) (size : length own ≡ 32) where
       go : Dec (found_at (Named a) own < 32) → a ≡ b
       go (yes h) =
           let s : ℕ → Slot = λ i. get_or own i free in
-          let p : (s (found_at (Named a) own)).system ≡ a = named_system a (s (found_at (Named a) own)) (first_passes (passes (Named a)) free own (omega arith)) in
-          let q : (s (found_at (Named b) own)).system ≡ b = named_system b (s (found_at (Named b) own)) (first_passes (passes (Named b)) free own (omega arith)) in
-          sym p ∙ ap (λ (i : ℕ). (s i).system) e ∙ q
+          let named : (n : ℕ) → found_at (Named n) own < length own → (s (found_at (Named n) own)).system ≡ n =
+          λ n k. named_system n (s (found_at (Named n) own)) (first_passes (passes (Named n)) free own k) in
+          sym (named a (omega arith)) ∙ ap (λ (i : ℕ). (s i).system) e ∙ named b (omega arith)
       go (no h) =
           let p : runs t a ≡ true = rw (le-ltb (found_at (Named a) own) 32 (omega arith)) at ha in
           let q : runs t b ≡ true = rw (le-ltb (found_at (Named b) own) 32 (omega arith)) at hb in

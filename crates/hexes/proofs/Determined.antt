@@ -1,8 +1,11 @@
 -- Two outcomes that a promise permits for the same call are equal: each is the one that the definition gives.
 use mathlib.Core.Path.{◌≡◌, sym, ap, ◌∙◌}
-use Rattle.wire.specs.declared.Counted.{Counted}
+use Prim.Native.Nat.{ℕ}
+use Rattle.std.proofs.Common.{Result}
+use Rattle.refusal.specs.Answer.{Counted, counted_in}
+use Rattle.refusal.proofs.Once.{one_count}
 use Rattle.wire.specs.Lent.{out_after}
-use Rattle.hexes.specs.declared.Said.{Said}
+use Rattle.hexes.specs.declared.HexError.{HexError}
 use Rattle.hexes.specs.Hex.{bytes_in, said_after, hex_of}
 use Rattle.hexes.proofs.bytes_in.Reads as bytes_in_reads
 use Rattle.hexes.proofs.hex_of.Reads as hex_of_reads
@@ -12,11 +15,11 @@ bytes_in_one :
     → (r ≡ r') × (s.1.0.now ≡ s'.1.0.now)
 bytes_in_one κs a r r' s s' p q =
     let e : r ≡ r' = p.0 ∙ sym q.0 in
-    (e, p.1 ∙ ap (λ (x : Said). said_after x (bytes_in a.0.now) a.1.0.now) e ∙ sym q.1)
+    (e, p.1.0 ∙ ap (λ (x : Result ℕ HexError). said_after x (bytes_in a.0.now) a.1.0.now) e ∙ sym q.1.0)
 
 hex_of_one :
     (κs : _) (a : _) (r r' : _) (s s' : _) → hex_of_reads.Post κs a r s → hex_of_reads.Post κs a r' s'
     → (r ≡ r') × (s.1.0.now ≡ s'.1.0.now)
 hex_of_one κs a r r' s s' p q =
-    let e : r ≡ r' = p.0 ∙ sym q.0 in
-    (e, p.1 ∙ ap (λ (x : Counted). out_after x (hex_of a.0.now) a.1.0.now) e ∙ sym q.1)
+    let e : counted_in r ≡ counted_in r' = p.0 ∙ sym q.0 in
+    (one_count r r' e, p.1.0 ∙ ap (λ (x : Counted). out_after x (hex_of a.0.now) a.1.0.now) e ∙ sym q.1.0)

@@ -6,12 +6,13 @@ use mathlib.Core.List.{List, [], ◌∷◌}
 use native.Mathlib.Numerals.{add-one}
 use native.Mathlib.Nat.{add-zero}
 use native.Mathlib.Omega.{arith}
-use borrow.Author.Tests.{le-leb, lt-leb, eq-eqb, ne_eqb, eqb-true, eqb-false, leb-true, ltb-true}
+use borrow.Author.Tests.{le-leb, lt-ltb, lt-leb, eq-eqb, ne_eqb, eqb-true, eqb-false, leb-true, ltb-true, ltb-false}
 use lib.Dec.{eqb, ltb, leb}
 use lib.ListN.{length, drop, get_or, set, length-set}
 use lib.Seq.{sets, drop-cons}
 use Rattle.wire.proofs.Choice.{both}
-use Rattle.hexes.specs.Hex.{within, digit_of, place_on, place_after, bytes_from, hex_of}
+use Rattle.std.proofs.Common.{Some, None}
+use Rattle.hexes.specs.Hex.{within, digit_of, some_digit, place_on, place_after, bytes_from, hex_of}
 
 pub by_cond : (P : ℕ → Type 0) (b : Bool) (x y : ℕ) → (b ≡ true → P x) → (b ≡ false → P y) → P (cond b x y)
 by_cond P true x y f g = f refl
@@ -58,22 +59,76 @@ digit_le c =
     by_cond (λ (d : ℕ). d ≤ 16) (within 0x41 0x46 c) _ _ (λ h. omega (arith, at_most 0x41 0x46 c h)) (λ _.
     by_cond (λ (d : ℕ). d ≤ 16) (within 0x61 0x66 c) _ _ (λ h. omega (arith, at_most 0x61 0x66 c h)) (λ _. omega arith)))
 
+-- what is told of a digit
+pub some_told : (d n : ℕ) → Some n ≡ some_digit d → (d ≡ n) × (d < 16)
+some_told d n e = by (ltb d 16) refl e
+  where
+    by : (b : Bool) → ltb d 16 ≡ b → Some n ≡ cond b (Some d) None → (d ≡ n) × (d < 16)
+    by true t p = (cc, ltb-true d 16 t)
+    by false t p = cc
+
+pub none_told : (d : ℕ) → None ≡ some_digit d → 16 ≤ d
+none_told d e = by (ltb d 16) refl e
+  where
+    by : (b : Bool) → ltb d 16 ≡ b → None ≡ cond b (Some d) None → 16 ≤ d
+    by true t p = cc
+    by false t p = ltb-false d 16 t
+
 -- ---- what is wrong stays wrong
 
-wrong_on : (c : ℕ) → place_on 17 c ≡ 17
+pub wrong_on : (c : ℕ) → place_on 17 c ≡ 17
 unfolding place_on
 wrong_on c = rw (same {A = ℕ} (eqb (digit_of c) 16) 17, same {A = ℕ} (eqb c 0x20) 17)
 
-wrong_after : (s : List ℕ) → place_after 17 s ≡ 17
+pub wrong_after : (s : List ℕ) → place_after 17 s ≡ 17
 wrong_after [] = refl
 wrong_after (c ∷ s) = rw (wrong_on c) (wrong_after s)
 
 -- what is no digit does not end a byte
-broken : (place c : ℕ) → place < 16 → digit_of c ≡ 16 → place_on place c ≡ 17
+pub broken : (place c : ℕ) → place < 16 → digit_of c ≡ 16 → place_on place c ≡ 17
 unfolding place_on
 broken place c h e =
     let n : eqb place 16 ≡ false = ne_eqb place 16 (λ z. omega (arith, z)) in
     rw (n, eq-eqb (digit_of c) 16 e, same {A = ℕ} (eqb c 0x20) 17)
+
+-- ---- a place behind a character: behind a byte's first digit, behind its second, between bytes as before, or behind something wrong
+
+no_digit : digit_of 0x20 ≡ 16
+unfolding digit_of
+no_digit = refl
+
+no_space : (c : ℕ) → digit_of c < 16 → eqb c 0x20 ≡ false
+no_space c h = ne_eqb c 0x20 (λ e. omega (arith, h, no_digit, ap digit_of e))
+
+module _ (c n : ℕ) (e : Some n ≡ some_digit (digit_of c)) where
+  pub begins_by : n ≡ place_on 16 c
+  unfolding place_on
+  begins_by =
+      let t = some_told (digit_of c) n e in
+      let k : eqb (digit_of c) 16 ≡ false = ne_eqb (digit_of c) 16 (λ z. omega (arith, z, t.1)) in
+      rw (no_space c t.1, k) (sym t.0)
+
+  pub ends_by : (place : ℕ) → place < 16 → 16 ≡ place_on place c
+  unfolding place_on
+  ends_by place h =
+      let t = some_told (digit_of c) n e in
+      let k : eqb (digit_of c) 16 ≡ false = ne_eqb (digit_of c) 16 (λ z. omega (arith, z, t.1)) in
+      rw (no_space c t.1, k, lt-ltb place 16 h)
+
+pub space_between : (c : ℕ) → c ≡ 0x20 → 16 ≡ place_on 16 c
+unfolding place_on
+space_between c e = rw (eq-eqb c 0x20 e)
+
+module _ (c : ℕ) (e : None ≡ some_digit (digit_of c)) where
+  none_is : digit_of c ≡ 16
+  none_is = omega (arith, none_told (digit_of c) e, digit_le c)
+
+  pub breaks_between : (c ≡ 0x20 → ⊥) → 17 ≡ place_on 16 c
+  unfolding place_on
+  breaks_between h = rw (ne_eqb c 0x20 h, eq-eqb (digit_of c) 16 none_is)
+
+  pub breaks_byte : (place : ℕ) → place < 16 → 17 ≡ place_on place c
+  breaks_byte place h = sym (broken place c h none_is)
 
 -- so a byte that was begun ends with a digit, where all ends well
 pub ends_well : (place c : ℕ) (s : List ℕ) → place < 16 → place_after (place_on place c) s ≡ 16 → digit_of c < 16
@@ -115,7 +170,8 @@ module _ (s : List ℕ) (i place p : ℕ) (h : i < length s) (on : p ≡ place_o
   size_turn = rw (add-one, drop-cons s i 0 h, on) (sym (counted (ltb place 16) _ _))
 
   -- and the byte stored that it ends
-  module _ (out o : List ℕ) (n e : ℕ) (put : o ≡ cond (ltb place 16) (set out n (place * 16 + digit_of (get_or s i 0))) out) (more : e ≡ cond (ltb place 16) 1 0) where
+  module _ (out o : List ℕ) (n e : ℕ) (put : o ≡ cond (ltb place 16) (set out n (place * 16 + digit_of (get_or s i 0))) out)
+      (more : e ≡ cond (ltb place 16) 1 0) where
     pub store_turn : sets o (n + e) (bytes_from p (drop (i + 1) s)) ≡ sets out n (bytes_from place (drop i s))
     store_turn = rw (put, more, add-one, drop-cons s i 0 h, on) (stored (ltb place 16) out n _ _)
 

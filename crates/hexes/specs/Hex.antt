@@ -1,9 +1,12 @@
 -- Bytes in hex: which bytes a line's characters say, and the digits that a byte is printed as.
-use Rattle.std.specs.Prelude.{ℕ, ◌+◌, ◌*◌, ◌-◌, ◌/◌, ◌%◌, Bool, false, cond, List, [], ◌∷◌, ◌++◌, eqb, ltb, leb, length, drop}
-use Rattle.wire.specs.declared.Counted.{Counted}
-use Rattle.wire.specs.declared.Counted.TheVariants as C
-use Rattle.hexes.specs.declared.Said.{Said}
-use Rattle.hexes.specs.declared.Said.TheVariants.{Bytes, Wrong, Long}
+use Rattle.std.specs.Prelude.{ℕ, ◌+◌, ◌*◌, ◌-◌, ◌/◌, ◌%◌, ◌<◌, Bool, false, cond, List, [], ◌∷◌, ◌++◌, eqb, ltb, leb, length, drop}
+use Rattle.std.specs.Prelude.{Option, Some, None, Result, Ok, Err}
+use Rattle.refusal.specs.Answer.{Counted}
+use Rattle.refusal.specs.Answer as C
+use Rattle.hexes.specs.declared.HexError.{HexError}
+use Rattle.hexes.specs.declared.HexError.TheVariants.{Wrong, Long}
+use Rattle.hexes.specs.declared.Place.{Place}
+use Rattle.hexes.specs.declared.Place.TheVariants.{Between, Behind, Broken}
 
 abbrev pub within : ℕ → ℕ → ℕ → Bool
 within low high c = cond (leb low c) (leb c high) false
@@ -16,6 +19,10 @@ digit_of c =
     (cond (within 0x61 0x66 c) (c - 0x57)
     16))
 
+-- a digit's value, if it is one
+abbrev pub some_digit : ℕ → Option ℕ
+some_digit d = cond (ltb d 16) (Some d) None
+
 -- ---- a place in a line is behind the first digit of a byte, and then it is that digit's value; or between bytes; or behind something wrong
 
 abbrev pub between : ℕ
@@ -23,6 +30,17 @@ between = 16
 
 abbrev pub wrong : ℕ
 wrong = 17
+
+-- the number of a place; behind a first digit it is the digit's value, below 16
+abbrev pub number_of : Place → ℕ
+number_of Between = between
+number_of (Behind d) = d
+number_of Broken = wrong
+
+abbrev pub IsPlace : Place → Type 0
+IsPlace Between = Unit {0}
+IsPlace (Behind d) = d < 16
+IsPlace Broken = Unit {0}
 
 -- a space may stand only between bytes
 abbrev pub on_space : ℕ → ℕ
@@ -56,17 +74,16 @@ unfoldable pub is_hex : List ℕ → Bool
 is_hex s = eqb (place_after between s) between
 
 -- how many they are, if there is room for them
-abbrev pub said_in : List ℕ → ℕ → Said
-said_in bytes room = cond (ltb room (length bytes)) Long (Bytes (length bytes))
+abbrev pub said_in : List ℕ → ℕ → Result ℕ HexError
+said_in bytes room = cond (ltb room (length bytes)) (Err Long) (Ok (length bytes))
 
-unfoldable pub said_of : List ℕ → ℕ → Said
-said_of s room = cond (is_hex s) (said_in (bytes_in s) room) Wrong
+unfoldable pub said_of : List ℕ → ℕ → Result ℕ HexError
+said_of s room = cond (is_hex s) (said_in (bytes_in s) room) (Err Wrong)
 
 -- the output afterwards: the bytes, the rest stays; as it was where they are not told
-abbrev pub said_after : Said → List ℕ → List ℕ → List ℕ
-said_after (Bytes n) bytes out = bytes ++ drop n out
-said_after Wrong bytes out = out
-said_after Long bytes out = out
+abbrev pub said_after : Result ℕ HexError → List ℕ → List ℕ → List ℕ
+said_after (Ok n) bytes out = bytes ++ drop n out
+said_after (Err e) bytes out = out
 
 -- ---- bytes printed
 

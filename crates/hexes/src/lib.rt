@@ -1,89 +1,111 @@
+// Bytes in hex, both ways: the bytes that a line's characters say, and the digits that bytes are printed as.
 #![tactic(auto)]
 
-ghost use Rattle.std.specs.Prelude.{true, cond, ◌≡◌, ◌*◌, ◌+◌, ◌≤◌, ◌<◌, ltb, length, set};
+ghost use Rattle.std.specs.Prelude.{true, cond, ◌≡◌, ◌*◌, ◌+◌, ◌≤◌, ◌<◌, ltb, length, set, Ok, Err, IfOk};
 ghost use Rattle.std.proofs.lemmas.List.Edits.{sets};
+ghost use Rattle.refusal.specs.Answer.{counted_in};
 ghost use Rattle.wire.specs.Lent.{out_after};
-ghost use Rattle.hexes.specs.Hex.{digit_of, on_digit, place_on, is_hex, bytes_in, said_of, said_after, glyph_of, hex_of, printed_of};
+ghost use Rattle.hexes.specs.Hex.{digit_of, some_digit, place_on, number_of, IsPlace, is_hex, bytes_in, said_of, said_after, glyph_of, hex_of, printed_of};
 
-use wire::Counted;
+use refusal::Refusal;
+use std::error::Error;
+use std::fmt;
 
-// How many bytes a line says; or that a character is wrong or a byte half there; or that there are more than the output holds.
-#[derive(Clone, Copy)]
-pub enum Said {
-    Bytes(usize),
+/// Why a line's characters say no bytes.
+#[derive(Clone, Copy, Debug, PartialEq, Eq)]
+pub enum HexError {
+    /// A character is wrong, or a byte is half there.
     Wrong,
+    /// There are more bytes than the output holds.
     Long,
 }
 
-// The value of a hex digit, in upper or lower case; 16 for any other character.
-fn digit(c: u8) -> u8
-    ensures { result ≡ digit_of c }
-{
-    match c {
-        0x30..=0x39 => c - 0x30,
-        0x41..=0x46 => c - 0x37,
-        0x61..=0x66 => c - 0x57,
-        _ => 16,
+impl fmt::Display for HexError {
+    fn fmt<W: fmt::Write>(&self, f: &mut fmt::Formatter<W>) -> fmt::Result {
+        f.write_str(match self {
+            HexError::Wrong => "a character is wrong, or a byte is half there",
+            HexError::Long => "there are more bytes than the output holds",
+        })
     }
 }
 
-// The place behind a digit of this value: below 16 behind the first digit of a byte, 16 between bytes, 17 behind something wrong.
-fn digit_on(place: u8, d: u8) -> u8
-    ensures { result ≡ on_digit place d }
+impl Error for HexError {}
+
+// The value of a hex digit, in upper or lower case.
+#[tactic(auto, unfolding(crate::specs::Hex::digit_of), using(std::proofs::lemmas::Bool::Decides::nat_tests))]
+fn digit(c: u8) -> Option<u8>
+    ensures { result ≡ some_digit (digit_of c) }
 {
-    if d == 16 {
-        return 17;
+    match c {
+        b'0'..=b'9' => Some(c - b'0'),
+        b'A'..=b'F' => Some(c - b'A' + 10),
+        b'a'..=b'f' => Some(c - b'a' + 10),
+        _ => None,
     }
-    if place < 16 {
-        return 16;
-    }
-    if place == 16 { d } else { 17 }
+}
+
+// Where a character stands: between bytes, behind the first digit of a byte, which has this value, or behind something wrong.
+// That the value is a digit's (`IsPlace`) stays a clause: an enum has no ghost field, and a struct in it would only hold this byte.
+#[derive(Clone, Copy)]
+enum Place {
+    Between,
+    Behind(u8),
+    Broken,
 }
 
 // The place behind one character more.
-fn place_on(place: u8, c: u8) -> u8
-    ensures { result ≡ place_on place c }
+fn place_on(place: Place, c: u8) -> Place
+    requires { IsPlace place }
+    ensures number { number_of result ≡ place_on (number_of place) c }
+    ensures within { IsPlace result }
 {
-    if c == 0x20 {
-        return if place == 16 { 16 } else { 17 };
+    match (place, digit(c)) {
+        (Place::Between, Some(d)) => Place::Behind(d),
+        (Place::Behind(_), Some(_)) => Place::Between,
+        (Place::Between, None) if c == b' ' => Place::Between,
+        _ => Place::Broken,
     }
-    digit_on(place, digit(c))
 }
 
 // How many bytes a digit ends at this place.
-fn ended(place: u8) -> usize
-    ensures { (result ≡ cond (ltb place 16) 1 0) × (result ≤ 1) }
+fn ended(place: Place) -> usize
+    requires { IsPlace place }
+    ensures count { result ≡ cond (ltb (number_of place) 16) 1 0 }
+    ensures within { result ≤ 1 }
 {
-    if place < 16 { 1 } else { 0 }
+    match place {
+        Place::Behind(_) => 1,
+        _ => 0,
+    }
 }
 
 // How many bytes the characters of s say.
-fn measure(s: &[u8]) -> Said
-    ensures { result ≡ cond (is_hex s.now) (Said.Bytes (length (bytes_in s.now))) Said.Wrong }
+fn measure(s: &[u8]) -> Result<usize, HexError>
+    ensures { result ≡ cond (is_hex s.now) (Ok (length (bytes_in s.now))) (Err HexError.Wrong) }
 {
-    let mut place: u8 = 16;
+    let mut place = Place::Between;
     let mut n: usize = 0;
-    let mut i: usize = 0;
-    while i < s.len() {
+    for c in s {
         n += ended(place);
-        place = place_on(place, s[i]);
-        i += 1;
+        place = place_on(place, *c);
     }
-    if place == 16 {
-        Said::Bytes(n)
-    } else {
-        Said::Wrong
+    match place {
+        Place::Between => Ok(n),
+        _ => Err(HexError::Wrong),
     }
 }
 
 // Stores the byte that the digit c ends, if it ends one.
-fn put_ended(out: &mut [u8], n: usize, place: u8, c: u8)
-    requires place_in_bounds { n + cond (ltb place 16) 1 0 ≤ length out.old }
-    requires c_bound { cond (ltb place 16) (digit_of c) 0 < 16 }
-    ensures { out.new ≡ cond (ltb place 16) (set out.old n (place * 16 + digit_of c)) out.old }
+fn put_ended(out: &mut [u8], n: usize, place: Place, c: u8)
+    requires is_place { IsPlace place }
+    requires place_in_bounds { n + cond (ltb (number_of place) 16) 1 0 ≤ length out.old }
+    requires c_bound { cond (ltb (number_of place) 16) (digit_of c) 0 < 16 }
+    ensures { out.new ≡ cond (ltb (number_of place) 16) (set out.old n (number_of place * 16 + digit_of c)) out.old }
 {
-    if place < 16 {
-        out[n] = place * 16 + digit(c);
+    if let Place::Behind(high) = place
+        && let Some(low) = digit(c)
+    {
+        out[n] = high * 16 + low;
     }
 }
 
@@ -93,40 +115,35 @@ fn put_bytes(s: &[u8], out: &mut [u8])
     requires s_in_bounds { length (bytes_in s.now) ≤ length out.old }
     ensures { out.new ≡ sets out.old 0 (bytes_in s.now) }
 {
-    let mut place: u8 = 16;
+    let mut place = Place::Between;
     let mut n: usize = 0;
-    let mut i: usize = 0;
-    while i < s.len() {
-        let c = s[i];
-        put_ended(out, n, place, c);
+    for c in s {
+        put_ended(out, n, place, *c);
         n += ended(place);
-        place = place_on(place, c);
-        i += 1;
+        place = place_on(place, *c);
     }
 }
 
-// Puts the bytes that the hex digits of s say at the start of out. Spaces may stand between bytes.
-pub fn bytes_in(s: &[u8], out: &mut [u8]) -> Said
-    ensures { (result ≡ said_of s.now (length out.old)) × (out.new ≡ said_after result (bytes_in s.now) out.old) }
+/// Puts the bytes that the hex digits of s say at the start of out, and answers how many they are. Spaces may stand between bytes.
+pub fn bytes_in(s: &[u8], out: &mut [u8]) -> Result<usize, HexError>
+    ensures said { result ≡ said_of s.now (length out.old) }
+    ensures output { out.new ≡ said_after result (bytes_in s.now) out.old }
+    ensures within { IfOk result (λ n. n ≤ length out.new) }
 {
-    match measure(s) {
-        Said::Wrong => Said::Wrong,
-        Said::Long => Said::Long,
-        Said::Bytes(n) => {
-            if out.len() < n {
-                return Said::Long;
-            }
-            put_bytes(s, out);
-            Said::Bytes(n)
-        }
+    let n = measure(s)?;
+    if out.len() < n {
+        return Err(HexError::Long);
     }
+    put_bytes(s, out);
+    Ok(n)
 }
 
+#[tactic(auto, unfolding(crate::specs::Hex::glyph_of), using(std::proofs::lemmas::Bool::Decides::nat_tests))]
 fn glyph(d: u8) -> u8
     requires { d < 16 }
     ensures { result ≡ glyph_of d }
 {
-    if d < 10 { 0x30 + d } else { 0x57 + d }
+    if d < 10 { b'0' + d } else { b'a' + (d - 10) }
 }
 
 // Stores the digits of the bytes of s, from place 0 on.
@@ -134,23 +151,22 @@ fn put_digits(s: &[u8], out: &mut [u8])
     requires { 2 * length s.now ≤ length out.old }
     ensures { out.new ≡ sets out.old 0 (hex_of s.now) }
 {
-    let mut i: usize = 0;
-    while i < s.len() {
-        let b = s[i];
-        out[2 * i] = glyph(b / 16);
-        out[2 * i + 1] = glyph(b % 16);
-        i += 1;
+    for (i, b) in s.iter().enumerate() {
+        out[2 * i] = glyph(*b / 16);
+        out[2 * i + 1] = glyph(*b % 16);
     }
 }
 
-// Puts the hex digits of s, two a byte and in lower case, at the start of out; 17 where it is too short.
-pub fn hex_of(s: &[u8], out: &mut [u8]) -> Counted
-    ensures { (result ≡ printed_of (length s.now) (length out.old)) × (out.new ≡ out_after result (hex_of s.now) out.old) }
+/// Puts the hex digits of s, two a byte and in lower case, at the start of out, and answers how many they are.
+pub fn hex_of(s: &[u8], out: &mut [u8]) -> Result<usize, Refusal>
+    ensures number { counted_in result ≡ printed_of (length s.now) (length out.old) }
+    ensures output { out.new ≡ out_after (counted_in result) (hex_of s.now) out.old }
+    ensures within { IfOk result (λ n. n ≤ length out.new) }
 {
     let n = s.len();
     if out.len() / 2 < n {
-        return Counted::Refused(17);
+        return Err(Refusal::ShortOutput);
     }
     put_digits(s, out);
-    Counted::Is(2 * n)
+    Ok(2 * n)
 }

@@ -1,5 +1,4 @@
--- Laws of the table of codes: a rule that a computed test finds in every entry holds of every code, a number that no entry has is unknown; and which
--- lengths a code allows.
+-- Laws of the table of codes: a rule that a computed test finds in every entry holds of every code; and which lengths a code allows.
 use Prim.Native.Nat.{ℕ, zero, suc, ◌*◌, ◌%◌, ◌∣◌, ◌<◌, ◌≤◌}
 use native.Mathlib.Nat.{mod-one, zero-lt-suc, dvd_of_mod-eq-zero, mod-eq-zero_of_dvd, dvd-mul_left_of_dvd, le_of_dvd}
 use native.Mathlib.Omega.{arith}
@@ -8,11 +7,10 @@ use mathlib.Core.Bool.{Bool, true, false, cond, not, ◌&&◌, ◌||◌}
 use mathlib.Core.List.{List, [], ◌∷◌}
 use lib.Dec.{T, eqb, ltb, leb, eqb→eq, ltb→lt, leb→le}
 use borrow.Author.Tests.{eqb-true, eq-eqb, ne_eqb, le-leb}
-use Rattle.item.specs.Code.{L, A, C2, sizes, Code, coded, codes, found, kind_of, is_plain, allowed_by, allowed_in, allowed, largest}
+use Rattle.item.specs.Code.{L, A, C2, sizes, Code, coded, codes, found, letters, name_of, kind_of, is_plain, allowed_by, allowed_in, allowed, largest}
 use Rattle.item.specs.declared.Kind.{Kind}
 use Rattle.item.specs.declared.Kind.TheVariants.{List as a_list, Plain, Unknown}
 use Rattle.item.specs.declared.Sizes.{Sizes}
-use Rattle.item.proofs.Keys.{Off, is_key_of, off_key}
 
 abbrev pub every : (Code → Bool) → List Code → Bool
 every p [] = true
@@ -44,14 +42,22 @@ found_number n (c ∷ cs) = go (eqb n c.number) refl (found_number n cs)
     go true e y = sym (eqb-true n c.number e)
     go false e y = y
 
--- a number that comes to no arm, where the arms have every entry's number, is unknown
-pub found_none : (n : ℕ) (arms : List (ℕ × List ℕ)) (cs : List Code) → Off (Unit {0}) n arms → T (every (λ c. is_key_of c.number arms) cs)
-    → found n cs ≡ coded n "" Unknown
-found_none n arms [] o t = refl
-found_none n arms (c ∷ cs) o t =
-    let here : T (is_key_of c.number arms) = and_left (is_key_of c.number arms) (every (λ c. is_key_of c.number arms) cs) t in
-    let there : T (every (λ c. is_key_of c.number arms) cs) = and_right (is_key_of c.number arms) (every (λ c. is_key_of c.number arms) cs) t in
-    rw (ne_eqb n c.number (off_key n arms o c.number here)) (found_none n arms cs o there)
+-- the letters of a code, found among the letters of the entries
+abbrev spelled : ℕ → List Code → List ℕ
+spelled n [] = []
+spelled n (c ∷ cs) = cond (eqb n c.number) (letters c.name) (spelled n cs)
+
+letters_found : (n : ℕ) (cs : List Code) → letters (found n cs).name ≡ spelled n cs
+letters_found n [] = refl
+letters_found n (c ∷ cs) = go (eqb n c.number) (letters_found n cs)
+  where
+    go : (b : Bool) → letters (found n cs).name ≡ spelled n cs → letters (cond b c (found n cs)).name ≡ cond b (letters c.name) (spelled n cs)
+    go true e = refl
+    go false e = e
+
+pub name_spelled : (n : ℕ) → name_of n ≡ spelled n codes
+unfolding name_of
+name_spelled n = letters_found n codes
 
 -- a rule of numbers and kinds that every entry keeps, and that an unknown code keeps, is kept by every code and its kind
 pub kept : (p : ℕ → Kind → Bool) (c : ℕ) → T (p c Unknown) → T (every (λ x. p x.number x.kind) codes) → T (p c (kind_of c))

@@ -1,21 +1,32 @@
+// The format codes, what each allows, and what a length and a content are in a text.
 #![tactic(auto)]
 
 ghost use Rattle.std.specs.Prelude.{◌≡◌};
 ghost use Rattle.item.specs.Code.{kind_of, name_of, allowed_by, allowed, largest};
 ghost use Rattle.item.specs.Item.{fewest, limit};
 
-// The code of a list.
+/// The code of a list.
 pub const L: u32 = 0o00;
 
-// The width of a content's elements, and the least length of a content that is not empty.
-#[derive(Clone, Copy)]
+/// The width of a content's elements, and the least length of a content that is not empty.
+#[derive(Clone, Copy, Debug, PartialEq, Eq)]
 pub struct Sizes {
     pub width: usize,
     pub least: usize,
 }
 
-// What a format code stands for: a list, a content of such sizes, or nothing.
-#[derive(Clone, Copy)]
+impl Sizes {
+    /// Whether a content of these sizes may have this length; of width 0 only none.
+    #[tactic(auto, unfolding(crate::specs::Code::allowed_by))]
+    pub fn allows(self, n: usize) -> bool
+        ensures { result ≡ allowed_by self n }
+    {
+        n.is_multiple_of(self.width) && (n == 0 || n >= self.least)
+    }
+}
+
+/// What a format code stands for: a list, a content of such sizes, or nothing.
+#[derive(Clone, Copy, Debug, PartialEq, Eq)]
 pub enum Kind {
     List,
     Plain(Sizes),
@@ -31,13 +42,14 @@ fn each(width: usize) -> Kind
     })
 }
 
+/// What a format code stands for.
+#[tactic(auto, unfolding(crate::specs::Code::kind_of))]
 pub fn kind_of(code: u32) -> Kind
     ensures { result ≡ kind_of code }
 {
     match code {
         L => Kind::List,
-        0o10 | 0o20 | 0o31 | 0o51 => each(1),
-        0o11 | 0o21 => each(1),
+        0o10 | 0o11 | 0o20 | 0o21 | 0o31 | 0o51 => each(1),
         0o22 => Kind::Plain(Sizes { width: 1, least: 2 }),
         0o32 | 0o52 => each(2),
         0o34 | 0o44 | 0o54 => each(4),
@@ -46,101 +58,78 @@ pub fn kind_of(code: u32) -> Kind
     }
 }
 
-// A code's name: its letters, 00 up to seven bytes, and how many they are. An unknown code has none.
-#[derive(Clone, Copy)]
-pub struct Name(pub [u8; 7], pub usize);
-
-pub fn name_of(code: u32) -> Name
-    ensures { result ≡ name_of code }
+/// The letters of a code's name; an unknown code has none.
+#[tactic(auto, using(crate::proofs::Codes::name_spelled))]
+pub fn name_of(code: u32) -> &'static [u8]
+    ensures { result.now ≡ name_of code }
 {
     match code {
-        L => Name(*b"L\0\0\0\0\0\0", 1),
-        0o10 => Name(*b"B\0\0\0\0\0\0", 1),
-        0o11 => Name(*b"BOOLEAN", 7),
-        0o20 => Name(*b"A\0\0\0\0\0\0", 1),
-        0o21 => Name(*b"J\0\0\0\0\0\0", 1),
-        0o22 => Name(*b"C2\0\0\0\0\0", 2),
-        0o31 => Name(*b"I1\0\0\0\0\0", 2),
-        0o51 => Name(*b"U1\0\0\0\0\0", 2),
-        0o32 => Name(*b"I2\0\0\0\0\0", 2),
-        0o52 => Name(*b"U2\0\0\0\0\0", 2),
-        0o34 => Name(*b"I4\0\0\0\0\0", 2),
-        0o44 => Name(*b"F4\0\0\0\0\0", 2),
-        0o54 => Name(*b"U4\0\0\0\0\0", 2),
-        0o30 => Name(*b"I8\0\0\0\0\0", 2),
-        0o40 => Name(*b"F8\0\0\0\0\0", 2),
-        0o50 => Name(*b"U8\0\0\0\0\0", 2),
-        _ => Name([0u8; 7], 0),
+        L => b"L",
+        0o10 => b"B",
+        0o11 => b"BOOLEAN",
+        0o20 => b"A",
+        0o21 => b"J",
+        0o22 => b"C2",
+        0o31 => b"I1",
+        0o51 => b"U1",
+        0o32 => b"I2",
+        0o52 => b"U2",
+        0o34 => b"I4",
+        0o44 => b"F4",
+        0o54 => b"U4",
+        0o30 => b"I8",
+        0o40 => b"F8",
+        0o50 => b"U8",
+        _ => b"",
     }
 }
 
-// Whether a content of these sizes may have this length.
-pub fn allows(s: Sizes, n: usize) -> bool
-    ensures { result ≡ allowed_by s n }
-{
-    if n == 0 {
-        return true;
-    }
-    if n < s.least {
-        return false;
-    }
-    if s.width == 0 {
-        return false;
-    }
-    n % s.width == 0
-}
-
-// Whether an item of this code may have this length.
+/// Whether an item of this code may have this length.
+#[tactic(auto, unfolding(crate::specs::Code::allowed))]
 pub fn is_allowed(code: u32, n: usize) -> bool
     ensures { result ≡ allowed code n }
 {
     match kind_of(code) {
         Kind::List => true,
-        Kind::Plain(s) => allows(s, n),
+        Kind::Plain(s) => s.allows(n),
         Kind::Unknown => false,
     }
 }
 
-// The largest byte that a content of this code may have.
+/// The largest byte that a content of this code may have.
+#[tactic(auto, unfolding(crate::specs::Code::largest))]
 pub fn largest_byte(code: u32) -> u8
     ensures { result ≡ largest code }
 {
     if code == 0o20 { 0x7F } else { 0xFF }
 }
 
-// What is asked of a text: that it is good, or that it is lean.
-#[derive(Clone, Copy)]
+/// What is asked of a text: that it is good, or that it is lean.
+#[derive(Clone, Copy, Debug, PartialEq, Eq)]
 pub enum Form {
     Good,
     Lean,
 }
 
-// The largest byte that a content of this code may have in a text of this form.
+/// The largest byte that a content of this code may have in a text of this form.
 pub fn limit_byte(form: Form, code: u32) -> u8
     ensures { result ≡ limit form code }
 {
     match form {
-        Form::Good => largest_byte(code),
-        Form::Lean => if code == 0o11 {
-            0x01
-        } else {
-            largest_byte(code)
-        },
+        Form::Lean if code == 0o11 => 0x01,
+        _ => largest_byte(code),
     }
 }
 
-// The fewest length bytes that hold a length, from its leading zeros.
+/// The fewest length bytes that hold a length, from its leading zeros.
+#[tactic(auto, using(crate::proofs::Fewest::zeros_1, crate::proofs::Fewest::zeros_2, crate::proofs::Fewest::zeros_3, crate::proofs::Fewest::zeros_4,))]
 pub fn length_bytes(n: u32) -> usize
     ensures { result ≡ fewest n }
 {
-    let zeros = u32::leading_zeros(n);
-    if zeros >= 24 {
-        1
-    } else {
-        if zeros >= 16 {
-            2
-        } else {
-            if zeros >= 8 { 3 } else { 4 }
-        }
+    match n.leading_zeros() {
+        24..=32 => 1,
+        16..=23 => 2,
+        8..=15 => 3,
+        _ => 4,
     }
 }

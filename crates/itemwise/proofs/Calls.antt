@@ -12,13 +12,8 @@ use Rattle.reader.specs.Step.{step}
 use Rattle.reader.specs.Feed.{allows, status, status_of, fed, after, eat, start, fed_of}
 use Rattle.reader.specs.Items.{shown, reached, met, seek, begin, next_of}
 use Rattle.reader.specs.Asked.{On}
-use Rattle.reader.specs.declared.Answer.{Answer}
-use Rattle.reader.specs.declared.Answer.TheVariants.{More, Complete, Refusal}
-use Rattle.reader.specs.declared.Found.{Found}
-use Rattle.reader.specs.declared.Found.TheVariants.{Nothing, Item}
-use Rattle.reader.specs.declared.Reached.{Reached}
+use Rattle.reader.specs.Answer.{Answer, More, Complete, Refusal, Fed, Found, Nothing, Item, Reached}
 use Rattle.reader.specs.declared.Reader.{Reader}
-use Rattle.reader.specs.declared.Fed.{Fed}
 use Rattle.reader.proofs.Rest.{Live}
 use Rattle.reader.proofs.Right.{goes, step_right}
 use Rattle.reader.proofs.Allowed.{state_reader}

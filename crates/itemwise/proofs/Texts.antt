@@ -24,9 +24,7 @@ use Rattle.reader.specs.Place.{Role, format_byte, length_byte, content_byte}
 use Rattle.reader.proofs.Rest.{RestAt, Rest, LiveAt, Live}
 use Rattle.reader.specs.declared.Phase.{Phase}
 use Rattle.reader.specs.declared.Phase.TheVariants.{Format, Length, Content, Refused}
-use Rattle.reader.specs.declared.Answer.{Answer}
-use Rattle.reader.specs.declared.Answer.TheVariants.{More, Complete, Refusal}
-use Rattle.reader.specs.declared.Found.TheVariants.{Nothing, Item as an_item}
+use Rattle.reader.specs.Answer.{Answer, More, Complete, Refusal, Nothing, Item as an_item}
 use Rattle.reader.proofs.Right.{Out, goes, ends, role_in, step_right}
 use Rattle.reader.specs.declared.Reader.{Reader}
 use Rattle.reader.proofs.Allowed.{state_reader}
@@ -92,7 +90,8 @@ module _ (s : State) (b : ℕ) (t : List ℕ) (live : Live (step s b)) (w : Rest
   abbrev left : List Entry
   left = notes (taken ((step s b).phase, (step s b).stack) t) t
 
-  one_shown : (a : Answer) → status (step s b) ≡ a → entries_in (step s b) t ≡ left → showing a (shown s b) (entries_in (step s b) t) ≡ noted (shown s b) ++ left
+  one_shown : (a : Answer) → status (step s b) ≡ a → entries_in (step s b) t ≡ left
+      → showing a (shown s b) (entries_in (step s b) t) ≡ noted (shown s b) ++ left
   unfolding status
   one_shown More e h = ap (λ (es : List Entry). noted (shown s b) ++ es) h
   one_shown Complete e h =

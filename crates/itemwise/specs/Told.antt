@@ -7,13 +7,8 @@ use Rattle.reader.specs.State.{State, state_of}
 use Rattle.reader.specs.Step.{step}
 use Rattle.reader.specs.Feed.{status, status_of, fed, fed_of}
 use Rattle.reader.specs.Items.{shown, next_of}
-use Rattle.reader.specs.declared.Answer.{Answer}
-use Rattle.reader.specs.declared.Answer.TheVariants.{More, Complete, Refusal}
-use Rattle.reader.specs.declared.Found.{Found}
-use Rattle.reader.specs.declared.Found.TheVariants.{Nothing, Item}
-use Rattle.reader.specs.declared.Reached.{Reached}
+use Rattle.reader.specs.Answer.{Answer, More, Complete, Refusal, Fed, Found, Nothing, Item, Reached}
 use Rattle.reader.specs.declared.Reader.{Reader}
-use Rattle.reader.specs.declared.Fed.{Fed}
 use Rattle.rows.specs.declared.Row.{Row}
 use Rattle.demand3.specs.Feeds.{more_consumed}
 

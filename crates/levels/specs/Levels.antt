@@ -1,5 +1,6 @@
 -- The items still awaited at each open level, as an array with a depth and as a stack of counts.
-use Rattle.std.specs.Prelude.{ℕ, zero, suc, ◌+◌, ◌-◌, ◌≤◌, Bool, cond, ◌&&◌, ◌≡◌, List, [], ◌∷◌, ◌++◌, reverse, eqb, leb, ltb, length, get_or, set, drop, replicate}
+use Rattle.std.specs.Prelude.{ℕ, zero, suc, ◌+◌, ◌-◌, ◌≤◌, Bool, cond, ◌&&◌, ◌≡◌}
+use Rattle.std.specs.Prelude.{List, [], ◌∷◌, ◌++◌, reverse, eqb, leb, ltb, length, get_or, set, drop, replicate}
 use Rattle.levels.specs.declared.Levels.{Levels}
 
 -- the first d counts, innermost first

@@ -35,7 +35,11 @@ spelled_is (suc j) (suc k) n few least h =
     let q = pow_ten k in
     let l : 10 ^ suc k ≤ n = least (omega arith) in
     let one : 1 ≤ 10 ^ k = pow_positive k in
-    rw (le-ltb n 10 (omega (arith, q, l, one)), glyph_ten (n % 10) (omega arith), spelled_is j k (n / 10) (omega (arith, p, few)) (λ w. omega (arith, q, l)) (omega arith))
+    rw (
+      le-ltb n 10 (omega (arith, q, l, one)),
+      glyph_ten (n % 10) (omega arith),
+      spelled_is j k (n / 10) (omega (arith, p, few)) (λ w. omega (arith, q, l)) (omega arith),
+    )
 
 -- twenty digits hold a u64
 pow_above : (i : ℕ) → 10 ^ 20 ≤ 10 ^ (i + 20)

@@ -3,9 +3,10 @@ use Prim.Native.Nat.{ℕ, ◌≤◌}
 use mathlib.Core.List.{[], ◌∷◌, ◌++◌}
 use native.Mathlib.Omega.{arith}
 use lib.ListN.{length, length-append}
+use Rattle.std.proofs.Common.{Option, Some, None}
 use Rattle.lines.specs.Text.{newline, number_field, name_field, fields, line_of, item_line, refusal_line, end_line, line_text}
 use Rattle.lines.specs.declared.Line.{Line}
-use Rattle.lines.specs.declared.Line.TheVariants.{Nothing, Message, Item, Refusal, End}
+use Rattle.lines.specs.declared.Line.TheVariants.{Message, Item, Refusal, End}
 use Rattle.lines.proofs.Fields.{field_short, fields_short, message_short}
 use Rattle.lines.proofs.Named.{name_short}
 
@@ -34,9 +35,9 @@ item_short depth code size =
       field_short size,
     )
 
-pub line_short : (x : Line) → length (line_text x) ≤ 149
-line_short Nothing = omega arith
-line_short (Message h n) = message_short h n
-line_short (Item depth code size) = omega (arith, item_short depth code size)
-line_short (Refusal number bytes) = omega (arith, refusal_short number bytes)
-line_short (End frames bytes) = omega (arith, end_short frames bytes)
+pub line_short : (x : Option Line) → length (line_text x) ≤ 149
+line_short None = omega arith
+line_short (Some (Message h n)) = message_short h n
+line_short (Some (Item depth code size)) = omega (arith, item_short depth code size)
+line_short (Some (Refusal number bytes)) = omega (arith, refusal_short number bytes)
+line_short (Some (End frames bytes)) = omega (arith, end_short frames bytes)

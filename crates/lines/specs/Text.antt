@@ -1,10 +1,10 @@
 -- What is printed of a line: a letter, fields behind tabs, numbers decimal, a line end.
-use Rattle.std.specs.Prelude.{ℕ, List, [], ◌∷◌, ◌++◌}
+use Rattle.std.specs.Prelude.{ℕ, List, [], ◌∷◌, ◌++◌, Option, Some, None}
 use Rattle.item.specs.Code.{codes, found, letters}
 use Rattle.frame.specs.declared.Header.{Header}
 use Rattle.lines.specs.Decimal.{decimal_of}
 use Rattle.lines.specs.declared.Line.{Line}
-use Rattle.lines.specs.declared.Line.TheVariants.{Nothing, Message, Item, Refusal, End}
+use Rattle.lines.specs.declared.Line.TheVariants.{Message, Item, Refusal, End}
 
 abbrev pub tab : ℕ
 tab = 9
@@ -43,9 +43,10 @@ refusal_line number bytes = line_of 0x58 (number ∷ bytes ∷ [])
 unfoldable pub end_line : ℕ → ℕ → List ℕ
 end_line frames bytes = line_of 0x45 (frames ∷ bytes ∷ [])
 
-abbrev pub line_text : Line → List ℕ
-line_text Nothing = []
-line_text (Message h n) = message_line h n
-line_text (Item depth code size) = item_line depth code size
-line_text (Refusal number bytes) = refusal_line number bytes
-line_text (End frames bytes) = end_line frames bytes
+-- of no line nothing
+abbrev pub line_text : Option Line → List ℕ
+line_text None = []
+line_text (Some (Message h n)) = message_line h n
+line_text (Some (Item depth code size)) = item_line depth code size
+line_text (Some (Refusal number bytes)) = refusal_line number bytes
+line_text (Some (End frames bytes)) = end_line frames bytes

@@ -1,3 +1,4 @@
+// A line of the listing as bytes: a letter, fields behind tabs, numbers decimal, a line end.
 #![tactic(auto)]
 
 ghost use Rattle.std.specs.Prelude.{◌+◌, ◌*◌, ◌≤◌, ◌≡◌, length};
@@ -6,13 +7,17 @@ ghost use Rattle.lines.specs.Text.{number_field, name_field, fields, line_of, me
 
 use frame::Header;
 
-// A line of the listing, or none: M with a header and the text's length; I with a depth, a code and a length; X with a number and bytes; E with frames and bytes.
+/// A line of the listing.
 #[derive(Clone, Copy)]
 pub enum Line {
-    Nothing,
+    /// M: a header, and its text's length.
     Message(Header, usize),
+    /// I: a depth, a code and a length.
     Item(usize, u32, usize),
+    /// X: a refusal's number, and bytes.
+    // No Refusal: `print` promises a line for any number.
     Refusal(u32, u64),
+    /// E: frames and bytes.
     End(u64, u64),
 }
 
@@ -22,7 +27,7 @@ fn put(out: &mut [u8], at: usize, s: &[u8]) -> usize
     ensures { (result ≡ at + length s.now) × (out.new ≡ sets out.old at s.now) }
 {
     let end = at + s.len();
-    wire::copy(&mut out[at..end], s);
+    out[at..end].copy_from_slice(s);
     end
 }
 
@@ -34,7 +39,7 @@ fn put_number(out: &mut [u8], at: usize, n: u64) -> usize
     let mut digits = [0u8; 20];
     let k = io::decimal(n, &mut digits);
     let a = put(out, at, b"\t");
-    put(out, a, &digits[0..k])
+    put(out, a, &digits[..k])
 }
 
 // Puts numbers, each behind a tab.
@@ -43,10 +48,8 @@ fn put_numbers(out: &mut [u8], at: usize, ns: &[u64]) -> usize
     ensures { (result ≡ at + length (fields ns.now)) × (out.new ≡ sets out.old at (fields ns.now)) }
 {
     let mut a = at;
-    let mut i: usize = 0;
-    while i < ns.len() {
-        a = put_number(out, a, ns[i]);
-        i += 1;
+    for n in ns {
+        a = put_number(out, a, *n);
     }
     a
 }
@@ -66,11 +69,8 @@ fn put_name(out: &mut [u8], at: usize, code: u32) -> usize
     requires { at + 8 ≤ length out.old }
     ensures { (result ≡ at + length (name_field code)) × (out.new ≡ sets out.old at (name_field code)) }
 {
-    let name = item::name_of(code);
-    let letters = name.0;
-    let count = name.1;
     let a = put(out, at, b"\t");
-    put(out, a, &letters[0..count])
+    put(out, a, item::name_of(code))
 }
 
 // The line of an item.
@@ -86,6 +86,7 @@ fn put_item(out: &mut [u8], at: usize, depth: usize, code: u32, size: usize) -> 
 }
 
 // The line of a message.
+#[tactic(auto, unfolding(crate::specs::Text::message_line))]
 fn put_message(out: &mut [u8], at: usize, h: Header, n: usize) -> usize
     requires { at + 149 ≤ length out.old }
     ensures { (result ≡ at + length (message_line h n)) × (out.new ≡ sets out.old at (message_line h n)) }
@@ -106,15 +107,16 @@ fn put_message(out: &mut [u8], at: usize, h: Header, n: usize) -> usize
     )
 }
 
-// Puts a line at the start of the output, and answers how many bytes it has.
-pub fn print(line: Line, out: &mut [u8; 160]) -> usize
+/// Puts a line, or none, at the start of the output, and answers how many bytes it has.
+#[tactic(auto, unfolding(crate::specs::Text::refusal_line, crate::specs::Text::end_line))]
+pub fn print(line: Option<Line>, out: &mut [u8; 160]) -> usize
     ensures { (result ≡ length (line_text line)) × (out.new ≡ sets out.old 0 (line_text line)) }
 {
     match line {
-        Line::Nothing => 0,
-        Line::Message(h, n) => put_message(out, 0, h, n),
-        Line::Item(depth, code, size) => put_item(out, 0, depth, code, size),
-        Line::Refusal(number, bytes) => put_line(out, 0, b'X', &[number as u64, bytes]),
-        Line::End(frames, bytes) => put_line(out, 0, b'E', &[frames, bytes]),
+        None => 0,
+        Some(Line::Message(h, n)) => put_message(out, 0, h, n),
+        Some(Line::Item(depth, code, size)) => put_item(out, 0, depth, code, size),
+        Some(Line::Refusal(number, bytes)) => put_line(out, 0, b'X', &[number as u64, bytes]),
+        Some(Line::End(frames, bytes)) => put_line(out, 0, b'E', &[frames, bytes]),
     }
 }

@@ -4,12 +4,11 @@ use Rattle.wire.specs.Pick.{pick}
 use Rattle.frame.specs.declared.Header.{Header}
 use Rattle.slots.specs.Slots.{no_test, test_of, runs}
 use Rattle.message.specs.Message.{control, response, reject}
-use Rattle.message.specs.declared.Send.{Send}
-use Rattle.message.specs.declared.Send.TheVariants.{Nothing}
+use Rattle.message.specs.Send.{Send, Nothing}
 use Rattle.state.specs.State.{connected, selected, with_phase, with_test, numbered, gone}
 use Rattle.state.specs.declared.Phase.TheVariants.{NotSelected, Selected}
 use Rattle.state.specs.declared.Link.{Link}
-use Rattle.link.specs.declared.Linked.{Linked}
+use Rattle.link.specs.Linked.{Linked}
 
 -- ---- what a row answers
 

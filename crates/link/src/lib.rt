@@ -1,189 +1,218 @@
+// The rows of the link: control messages, connect, disconnect, linktest, separate, T6, T7, T8.
 #![tactic(auto)]
 
 ghost use Rattle.std.specs.Prelude.{◌≡◌};
+ghost use Rattle.message.specs.Notice.{told_in};
+ghost use Rattle.message.specs.Send.{send_in};
+ghost use Rattle.link.specs.Linked.{linked_in};
 ghost use Rattle.link.specs.Rows.{answer, told, leaves, rejecting, rejected_of, select_req_of, deselect_req_of, linktest_req_of, linktest_rsp_of};
 ghost use Rattle.link.specs.Rows.{separate_req_of, connect_of, disconnect_of, linktest_of, separate_of, t6_of, t7_of, t8_of};
 
 use frame::Header;
-use message::Send;
+use message::{Message, Notice};
+use refusal::Refusal;
+use slots::Linktest;
 use state::{Link, Phase};
 
-// What a row of the link answers: the number, the link then, whether the data slots are emptied, and at most one message to send.
-#[derive(Clone, Copy)]
+/// What a row of the link answers, the link then, whether the data slots are emptied, and what is sent.
+// `device` has a record like it for its own half; the two share no field's type but the answer's and the message's.
+#[derive(Clone, Copy, Debug, PartialEq, Eq)]
 pub struct Linked {
-    pub number: u32,
+    pub answer: Result<Notice, Refusal>,
     pub link: Link,
     pub empties: bool,
-    pub send: Send,
+    pub send: Option<Message>,
 }
 
-fn answer_of(number: u32, link: Link, send: Send) -> Linked
-    ensures { result ≡ answer number link send }
-{
-    Linked {
-        number,
-        link,
-        empties: false,
-        send,
+impl Linked {
+    // An answer alone, and nothing sent.
+    fn told(answer: Result<Notice, Refusal>, link: Link) -> Linked
+        ensures { linked_in result ≡ told (told_in answer) link }
+    {
+        Linked {
+            answer,
+            link,
+            empties: false,
+            send: None,
+        }
     }
-}
 
-fn told_of(number: u32, l: Link) -> Linked
-    ensures { result ≡ told number l }
-{
-    answer_of(number, l, Send::Nothing)
-}
+    // A message is sent.
+    fn sends(link: Link, message: Message) -> Linked
+        ensures { linked_in result ≡ answer 0 link (send_in (Some message)) }
+    {
+        Linked {
+            send: Some(message),
+            ..Linked::told(Ok(Notice::Done), link)
+        }
+    }
 
-fn leaves_of(link: Link, send: Send) -> Linked
-    ensures { result ≡ leaves link send }
-{
-    Linked {
-        number: 0,
-        link,
-        empties: true,
-        send,
+    // The data slots are emptied.
+    fn leaves(link: Link, send: Option<Message>) -> Linked
+        ensures { linked_in result ≡ leaves link (send_in send) }
+    {
+        Linked {
+            answer: Ok(Notice::Done),
+            link,
+            empties: true,
+            send,
+        }
     }
 }
 
 // ---- received
 
+/// The Reject of a message, with its reason.
+#[tactic(auto, unfolding(crate::specs::Rows::rejecting))]
 pub fn reject(l: Link, h: Header, reason: u8) -> Linked
-    ensures { result ≡ rejecting l h reason }
+    ensures { linked_in result ≡ rejecting l h reason }
 {
-    answer_of(0, l, message::reject_of(h, reason))
+    Linked::sends(l, message::reject_of(h, reason))
 }
 
+#[tactic(auto, using(wire::proofs::Pick::picks), unfolding(crate::specs::Rows::rejected_of))]
 pub fn rejected(l: Link, h: Header) -> Linked
-    ensures { result ≡ rejected_of l h }
+    ensures { linked_in result ≡ rejected_of l h }
 {
-    let test = l.linktest;
-    if slots::is_running(test, h.system) {
-        return told_of(34, state::with_test(l, slots::no_test()));
+    if l.linktest.is_running(h.system) {
+        Linked::told(Ok(Notice::Closed), l.with_test(Linktest::closed()))
+    } else {
+        Linked::told(Ok(Notice::ClosedNothing), l)
     }
-    told_of(35, l)
 }
 
+#[tactic(auto, using(wire::proofs::Pick::picks), unfolding(crate::specs::Rows::select_req_of))]
 pub fn select_req(l: Link, h: Header) -> Linked
-    ensures { result ≡ select_req_of l h }
+    ensures { linked_in result ≡ select_req_of l h }
 {
-    if state::is_selected(l) {
-        return answer_of(0, l, message::response_of(h, 2, 1));
+    if l.is_selected() {
+        Linked::sends(l, message::response_of(h, 2, 1))
+    } else {
+        Linked::sends(l.with_phase(Phase::Selected), message::response_of(h, 2, 0))
     }
-    answer_of(
-        0,
-        state::with_phase(l, Phase::Selected),
-        message::response_of(h, 2, 0),
-    )
 }
 
-// Busy: any received slot is open.
+/// Busy: any received slot is open.
+#[tactic(auto, using(wire::proofs::Pick::picks), unfolding(crate::specs::Rows::deselect_req_of))]
 pub fn deselect_req(l: Link, busy: bool, h: Header) -> Linked
-    ensures { result ≡ deselect_req_of l busy h }
+    ensures { linked_in result ≡ deselect_req_of l busy h }
 {
-    if state::is_selected(l) {
-        if busy {
-            return answer_of(0, l, message::response_of(h, 4, 2));
-        }
-        return leaves_of(
-            state::with_phase(l, Phase::NotSelected),
-            message::response_of(h, 4, 0),
-        );
+    if !l.is_selected() {
+        Linked::sends(l, message::response_of(h, 4, 1))
+    } else if busy {
+        Linked::sends(l, message::response_of(h, 4, 2))
+    } else {
+        Linked::leaves(
+            l.with_phase(Phase::NotSelected),
+            Some(message::response_of(h, 4, 0)),
+        )
     }
-    answer_of(0, l, message::response_of(h, 4, 1))
 }
 
+#[tactic(auto, unfolding(crate::specs::Rows::linktest_req_of))]
 pub fn linktest_req(l: Link, h: Header) -> Linked
-    ensures { result ≡ linktest_req_of l h }
+    ensures { linked_in result ≡ linktest_req_of l h }
 {
-    answer_of(0, l, message::response_of(h, 6, 0))
+    Linked::sends(l, message::response_of(h, 6, 0))
 }
 
+#[tactic(auto, using(wire::proofs::Pick::picks), unfolding(crate::specs::Rows::linktest_rsp_of))]
 pub fn linktest_rsp(l: Link, h: Header) -> Linked
-    ensures { result ≡ linktest_rsp_of l h }
+    ensures { linked_in result ≡ linktest_rsp_of l h }
 {
-    let test = l.linktest;
-    if slots::is_running(test, h.system) {
-        return told_of(0, state::with_test(l, slots::no_test()));
+    if l.linktest.is_running(h.system) {
+        Linked::told(Ok(Notice::Done), l.with_test(Linktest::closed()))
+    } else {
+        reject(l, h, 3)
     }
-    reject(l, h, 3)
 }
 
+#[tactic(auto, using(wire::proofs::Pick::picks), unfolding(crate::specs::Rows::separate_req_of))]
 pub fn separate_req(l: Link) -> Linked
-    ensures { result ≡ separate_req_of l }
+    ensures { linked_in result ≡ separate_req_of l }
 {
-    if state::is_selected(l) {
-        return leaves_of(state::with_phase(l, Phase::NotSelected), Send::Nothing);
+    if l.is_selected() {
+        Linked::leaves(l.with_phase(Phase::NotSelected), None)
+    } else {
+        Linked::told(Ok(Notice::Done), l)
     }
-    told_of(0, l)
 }
 
 // ---- wished
 
+#[tactic(auto, using(wire::proofs::Pick::picks), unfolding(crate::specs::Rows::connect_of))]
 pub fn connect(l: Link) -> Linked
-    ensures { result ≡ connect_of l }
+    ensures { linked_in result ≡ connect_of l }
 {
-    if state::is_connected(l) {
-        return told_of(21, l);
+    if l.is_connected() {
+        Linked::told(Err(Refusal::AlreadyConnected), l)
+    } else {
+        Linked::told(Ok(Notice::Done), l.with_phase(Phase::NotSelected))
     }
-    told_of(0, state::with_phase(l, Phase::NotSelected))
 }
 
+#[tactic(auto, unfolding(crate::specs::Rows::disconnect_of))]
 pub fn disconnect(l: Link) -> Linked
-    ensures { result ≡ disconnect_of l }
+    ensures { linked_in result ≡ disconnect_of l }
 {
-    leaves_of(state::close(l), Send::Nothing)
+    Linked::leaves(l.closed(), None)
 }
 
-// With the fresh number n.
+/// With the fresh number n.
+#[tactic(auto, using(wire::proofs::Pick::picks), unfolding(crate::specs::Rows::linktest_of))]
 pub fn linktest(l: Link, n: u32) -> Linked
-    ensures { result ≡ linktest_of l n }
+    ensures { linked_in result ≡ linktest_of l n }
 {
-    let test = l.linktest;
-    if test.running {
-        return told_of(26, l);
+    if l.linktest.running {
+        return Linked::told(Err(Refusal::LinktestOpen), l);
     }
-    answer_of(
-        0,
-        state::with_test(state::numbered_by(l, n), slots::test_of(n)),
+    Linked::sends(
+        l.numbered_by(n).with_test(Linktest::begun(n)),
         message::control_of(0xFFFF, n, 0, 0, 5),
     )
 }
 
+/// With the fresh number n.
+#[tactic(auto, unfolding(crate::specs::Rows::separate_of))]
 pub fn separate(l: Link, n: u32) -> Linked
-    ensures { result ≡ separate_of l n }
+    ensures { linked_in result ≡ separate_of l n }
 {
-    leaves_of(
-        state::with_phase(state::numbered_by(l, n), Phase::NotSelected),
-        message::control_of(0xFFFF, n, 0, 0, 9),
+    Linked::leaves(
+        l.numbered_by(n).with_phase(Phase::NotSelected),
+        Some(message::control_of(0xFFFF, n, 0, 0, 9)),
     )
 }
 
 // ---- timers
 
+#[tactic(auto, using(wire::proofs::Pick::picks), unfolding(crate::specs::Rows::t6_of))]
 pub fn t6(l: Link) -> Linked
-    ensures { result ≡ t6_of l }
+    ensures { linked_in result ≡ t6_of l }
 {
-    let test = l.linktest;
-    if test.running {
-        return disconnect(l);
+    if l.linktest.running {
+        disconnect(l)
+    } else {
+        Linked::told(Err(Refusal::TimerStopped), l)
     }
-    told_of(27, l)
 }
 
+#[tactic(auto, using(wire::proofs::Pick::picks), unfolding(crate::specs::Rows::t7_of))]
 pub fn t7(l: Link) -> Linked
-    ensures { result ≡ t7_of l }
+    ensures { linked_in result ≡ t7_of l }
 {
-    if state::is_selected(l) {
-        return told_of(27, l);
+    if l.is_selected() {
+        return Linked::told(Err(Refusal::TimerStopped), l);
     }
     t8(l)
 }
 
+#[tactic(auto, using(wire::proofs::Pick::picks), unfolding(crate::specs::Rows::t8_of))]
 pub fn t8(l: Link) -> Linked
-    ensures { result ≡ t8_of l }
+    ensures { linked_in result ≡ t8_of l }
 {
-    if state::is_connected(l) {
-        return disconnect(l);
+    if l.is_connected() {
+        disconnect(l)
+    } else {
+        Linked::told(Err(Refusal::TimerStopped), l)
     }
-    told_of(27, l)
 }

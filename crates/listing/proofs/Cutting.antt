@@ -1,4 +1,5 @@
--- However a stream is cut into pieces and its output into buffers, its listing is printed: each call prints of the bytes that it consumes what the definition says.
+-- However a stream is cut into pieces and its output into buffers, its listing is printed: each call prints of the bytes that it consumes what the
+-- definition says.
 use Prim.Native.Nat.{ℕ, suc, ◌+◌, ◌-◌, ◌≤◌, ◌<◌}
 use mathlib.Core.Bool.{Bool, true, false, cond}
 use mathlib.Core.List.{List, [], ◌∷◌, ◌++◌, append_assoc}
@@ -43,7 +44,8 @@ run_printed l room (b ∷ p) = go (leb 320 room) (run_printed (byte_printed l b)
     go : (t : Bool)
         → bytes_printed (byte_printed l b).lister (take (run (byte_printed l b).lister (room - length (byte_printed l b).lines) p).consumed p)
         ≡ printed_by (run (byte_printed l b).lister (room - length (byte_printed l b).lines) p)
-        → bytes_printed l (take (cond t (one (byte_printed l b) (run (byte_printed l b).lister (room - length (byte_printed l b).lines) p)) (none l)).consumed (b ∷ p))
+        → bytes_printed l
+        (take (cond t (one (byte_printed l b) (run (byte_printed l b).lister (room - length (byte_printed l b).lines) p)) (none l)).consumed (b ∷ p))
         ≡ printed_by (cond t (one (byte_printed l b) (run (byte_printed l b).lister (room - length (byte_printed l b).lines) p)) (none l))
     go true h = ap (behind (byte_printed l b).lines) h
     go false h = refl
@@ -77,10 +79,12 @@ calls_printed l (c ∷ cs) =
     ∙ ap (behind r.lines) (calls_printed r.lister cs)
 
 -- the listing of a stream, however it was cut
-pub listed_so : (cs : List Call) (s : List ℕ) → eaten fresh_lister cs ≡ s → (called fresh_lister cs).lines ++ line_text (last_line (called fresh_lister cs).lister) ≡ listing_of s
+pub listed_so : (cs : List Call) (s : List ℕ) → eaten fresh_lister cs ≡ s
+    → (called fresh_lister cs).lines ++ line_text (last_line (called fresh_lister cs).lister) ≡ listing_of s
 unfolding listing_of
 listed_so cs s e =
-    ap (λ (t : Printed). t.lines ++ line_text (last_line t.lister)) (sym (calls_printed fresh_lister cs)) ∙ ap (λ (x : List ℕ). (bytes_printed fresh_lister x).lines ++ line_text (last_line (bytes_printed fresh_lister x).lister)) e
+    ap (λ (t : Printed). t.lines ++ line_text (last_line t.lister)) (sym (calls_printed fresh_lister cs))
+    ∙ ap (λ (x : List ℕ). (bytes_printed fresh_lister x).lines ++ line_text (last_line (bytes_printed fresh_lister x).lister)) e
 
 -- what a call prints has room
 pub run_fits : (l : Lister) (room : ℕ) (p : List ℕ) → length (run l room p).lines ≤ room
@@ -92,7 +96,13 @@ run_fits l room (b ∷ p) = go (leb 320 room) refl (run_fits (byte_printed l b).
         → length (run (byte_printed l b).lister (room - length (byte_printed l b).lines) p).lines ≤ room - length (byte_printed l b).lines
         → length (cond t (one (byte_printed l b) (run (byte_printed l b).lister (room - length (byte_printed l b).lines) p)) (none l)).lines ≤ room
     go true e h =
-        omega (arith, length-append (byte_printed l b).lines (run (byte_printed l b).lister (room - length (byte_printed l b).lines) p).lines, byte_short l b, leb-true 320 room e, h)
+        omega (
+          arith,
+          length-append (byte_printed l b).lines (run (byte_printed l b).lister (room - length (byte_printed l b).lines) p).lines,
+          byte_short l b,
+          leb-true 320 room e,
+          h,
+        )
     go false e h = omega arith
 
 -- the same of a call's answer, for a block from a place on

@@ -8,13 +8,14 @@ use lib.Seq.{sets, length-sets}
 use Rattle.wire.specs.Lent.{copied}
 use Rattle.wire.proofs.Stores.{sets_there, placed_sets}
 use Rattle.lines.specs.Text.{line_text}
+use Rattle.std.proofs.Common.{Option}
 use Rattle.lines.specs.declared.Line.{Line}
 use Rattle.lines.proofs.Short.{line_short}
 
 abbrev zeros : List ℕ
 zeros = replicate 160 0
 
-module _ (x : Line) (text : List ℕ) (n : ℕ) (counted : n ≡ length (line_text x)) (stored : text ≡ sets zeros 0 (line_text x)) where
+module _ (x : Option Line) (text : List ℕ) (n : ℕ) (counted : n ≡ length (line_text x)) (stored : text ≡ sets zeros 0 (line_text x)) where
   size : length zeros ≡ 160
   size = length-replicate {A = ℕ} 160 0
 

@@ -29,7 +29,8 @@ joined_first l s p =
 
 -- a byte more
 module _ (l : Lister) (room : ℕ) (p : List ℕ) (i : ℕ) (h : i < length p) where
-  run_more : 320 ≤ room → run l room (drop i p) ≡ one (byte_printed l (get_or p i 0)) (run (byte_printed l (get_or p i 0)).lister (room - length (byte_printed l (get_or p i 0)).lines) (drop (suc i) p))
+  run_more : 320 ≤ room → run l room (drop i p)
+      ≡ one (byte_printed l (get_or p i 0)) (run (byte_printed l (get_or p i 0)).lister (room - length (byte_printed l (get_or p i 0)).lines) (drop (suc i) p))
   unfolding run
   run_more k = ap (run l room) (drop-cons p i 0 h) ∙ rw (le-leb 320 room k)
 
@@ -42,7 +43,8 @@ unfolding run
 run_end l room p i e = ap (λ (k : ℕ). run l room (drop k p)) e ∙ ap (run l room) (drop-length p)
 
 -- the rest behind that byte
-module _ (r₀ : Run) (s p out : List ℕ) (l : Lister) (i at : ℕ) (h : i < length p) (k : 320 ≤ length s - at) (t : Told) (e : t ≡ byte_told l (get_or p i 0)) where
+module _ (r₀ : Run) (s p out : List ℕ) (l : Lister) (i at : ℕ) (h : i < length p) (k : 320 ≤ length s - at) (t : Told)
+    (e : t ≡ byte_told l (get_or p i 0)) where
   as_printed : (t.lister ≡ (byte_printed l (get_or p i 0)).lister) × (lines_of t ≡ (byte_printed l (get_or p i 0)).lines)
   unfolding byte_printed
   as_printed = (ap (λ (x : Told). x.lister) e, ap lines_of e)

@@ -1,3 +1,4 @@
+// A captured stream as lines in a lent output.
 #![tactic(auto)]
 
 ghost use Rattle.std.specs.Prelude.{◌+◌, ◌≤◌, ◌≡◌, length};
@@ -12,7 +13,7 @@ use lines::Line;
 // The bytes that one byte of a stream may print: at most two lines.
 const ROOM: usize = 320;
 
-// The lister after a piece, the bytes of it that it consumed, and the bytes of the output that it used.
+/// The lister after a piece, the bytes of it that it consumed, and the bytes of the output that it used.
 #[derive(Clone, Copy)]
 pub struct Listed {
     pub lister: Lister,
@@ -21,7 +22,7 @@ pub struct Listed {
 }
 
 // Puts a line at a place, and answers the place behind it.
-fn put_line(out: &mut [u8], at: usize, line: Line) -> usize
+fn put_line(out: &mut [u8], at: usize, line: Option<Line>) -> usize
     requires { at + length (line_text line) ≤ length out.old }
     ensures { (result ≡ at + length (line_text line)) × (out.new ≡ sets out.old at (line_text line)) }
 {
@@ -37,28 +38,31 @@ fn put_told(out: &mut [u8], at: usize, t: Told) -> usize
     requires { at + length (lines_of t) ≤ length out.old }
     ensures { (result ≡ at + length (lines_of t)) × (out.new ≡ sets out.old at (lines_of t)) }
 {
-    let first = t.first;
-    let second = t.second;
-    let a = put_line(out, at, first);
-    put_line(out, a, second)
+    let a = put_line(out, at, t.first);
+    put_line(out, a, t.second)
 }
 
-// A piece of the stream is listed at the start of the output, while there is room for what a byte may print.
+/// A piece of the stream is listed at the start of the output, while there is room for what a byte may print.
 pub fn list(l: Lister, piece: &[u8], out: &mut [u8]) -> Listed
     ensures { (result ≡ listed_by (run l (length out.old) piece.now)) × (out.new ≡ sets out.old 0 (run l (length out.old) piece.now).lines) }
 {
     let mut state = l;
-    let mut i: usize = 0;
     let mut at: usize = 0;
-    while i < piece.len() && ROOM <= out.len() - at {
-        let t = capture::byte_came(state, piece[i]);
+    for (i, b) in piece.iter().enumerate() {
+        if out.len() - at < ROOM {
+            return Listed {
+                lister: state,
+                consumed: i,
+                used: at,
+            };
+        }
+        let t = capture::byte_came(state, *b);
         state = t.lister;
         at = put_told(out, at, t);
-        i += 1;
     }
     Listed {
         lister: state,
-        consumed: i,
+        consumed: piece.len(),
         used: at,
     }
 }

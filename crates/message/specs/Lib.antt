@@ -1,2 +1,4 @@
+pub mod Send
 pub mod Message
 pub mod Written
+pub mod Notice

@@ -2,10 +2,10 @@
 use Rattle.std.specs.Prelude.{ℕ, cond, eqb}
 use Rattle.frame.specs.declared.Header.{Header}
 use Rattle.message.specs.declared.Received.{Received}
-use Rattle.message.specs.declared.Received.TheVariants.{Reject, OtherPType, OtherSType, SelectReq, SelectRsp, DeselectReq, DeselectRsp, LinktestReq, LinktestRsp, SeparateReq, Data}
+use Rattle.message.specs.declared.Received.TheVariants.{Reject, OtherPType, OtherSType, SelectReq, SelectRsp, DeselectReq, DeselectRsp}
+use Rattle.message.specs.declared.Received.TheVariants.{LinktestReq, LinktestRsp, SeparateReq, Data}
 use Rattle.message.specs.declared.Text.TheVariants.{Empty}
-use Rattle.message.specs.declared.Send.{Send}
-use Rattle.message.specs.declared.Send.TheVariants.{Message}
+use Rattle.message.specs.Send.{Send, Message}
 
 -- ---- received: SType 7 first, then the PType, then the SType
 

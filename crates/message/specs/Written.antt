@@ -1,15 +1,13 @@
 -- A message to send, as a frame: an S9 carries one lean B item of the 10 header bytes complained of.
 use Rattle.std.specs.Prelude.{ℕ, List, [], length}
-use Rattle.wire.specs.declared.Counted.{Counted}
-use Rattle.wire.specs.declared.Counted.TheVariants.{Is}
+use Rattle.refusal.specs.Answer.{Counted, Is}
 use Rattle.item.specs.Item.{plain, lean_item}
 use Rattle.frame.specs.Header.{header_bytes}
 use Rattle.frame.specs.Frame.{frame_of, written_of}
 use Rattle.frame.specs.declared.Header.{Header}
 use Rattle.message.specs.declared.Text.{Text}
 use Rattle.message.specs.declared.Text.TheVariants.{Empty, About, Wished}
-use Rattle.message.specs.declared.Send.{Send}
-use Rattle.message.specs.declared.Send.TheVariants.{Nothing, Message}
+use Rattle.message.specs.Send.{Send, Nothing, Message}
 
 -- the lean B item of a header's ten bytes
 unfoldable pub about_of : Header → List ℕ

@@ -1,4 +1,5 @@
--- What a frame's number 0 tells of its length, and what whole frames tell of the frame at their front: it lies within them, and what follows it is whole frames again.
+-- What a frame's number 0 tells of its length, and what whole frames tell of the frame at their front: it lies within them,
+-- and what follows it is whole frames again.
 use Prim.Native.Nat.{ℕ, zero, suc, ◌+◌, ◌≤◌, ◌<◌}
 use mathlib.Core.Path.{◌≡◌, refl, sym, ap, subst, ◌∙◌}
 use mathlib.Core.Bool.{Bool, true, false, cond}

@@ -1,6 +1,7 @@
--- What it tells that an outbox holds whole frames: the used bytes lie within it, and the first message within them; and what it tells that there is a next message.
-use Prim.Native.Nat.{ℕ, ◌+◌, ◌-◌, ◌≤◌, ◌<◌}
-use mathlib.Core.Path.{◌≡◌, refl, sym, ap, subst, ◌∙◌}
+-- What it tells that an outbox holds whole frames: the used bytes lie within it, and the first message within them;
+-- and what it tells that there is a next message.
+use Prim.Native.Nat.{ℕ, ◌+◌, ◌≤◌, ◌<◌}
+use mathlib.Core.Path.{◌≡◌, refl, sym, ap, subst}
 use mathlib.Core.Bool.{Bool, true, false, cond}
 use mathlib.Core.List.{List}
 use native.Mathlib.Omega.{arith}
@@ -25,10 +26,8 @@ pub record First (s : List ℕ) (used size : ℕ) : Type 0 where
   pub within : size ≤ used
   pub there : used ≤ length s
 
-pub first_is : (s : List ℕ) (used n : ℕ) → holds s used ≡ true → 0 < used → n ≡ length_in (take (used - 0) s) → First s used (4 + n)
-first_is s used n e h r =
-    let z : used - 0 ≡ used = omega arith in
-    let i : n ≡ length_in (take used s) = r ∙ ap (λ (k : ℕ). length_in (take k s)) z in
+pub first_is : (s : List ℕ) (used n : ℕ) → holds s used ≡ true → 0 < used → n ≡ length_in (take used s) → First s used (4 + n)
+first_is s used n e h i =
     let w = held s used e in
     let l = length-take used s in
     let f = whole_front (take used s) w.1 (omega (arith, l, w.0)) in

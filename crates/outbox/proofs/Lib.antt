@@ -1,4 +1,4 @@
 pub mod Fronts
 pub mod Held
-pub mod Moved
+pub mod Once
 pub mod Determined

@@ -1,10 +1,10 @@
 -- Messages to send wait in outboxes: frames lie end to end from place 0, as far as the used count goes.
-use Rattle.std.specs.Prelude.{ℕ, zero, suc, ◌+◌, ◌-◌, Bool, false, cond, List, [], ◌∷◌, ◌++◌, eqb, leb, ltb, length, take, drop, get_or, replicate}
-use Rattle.wire.specs.declared.Counted.{Counted}
-use Rattle.wire.specs.declared.Counted.TheVariants.{Is, Refused}
+use Rattle.std.specs.Prelude.{ℕ, zero, suc, ◌+◌, ◌-◌, Bool, false, cond, Option, None, Some}
+use Rattle.std.specs.Prelude.{List, [], ◌∷◌, ◌++◌, eqb, leb, ltb, length, take, drop, get_or, replicate}
+use Rattle.refusal.specs.Answer.{Counted, Is, Refused}
 use Rattle.frame.specs.Frame.{length_in, length_number, kind_number}
-use Rattle.outbox.specs.declared.Dropped.{Dropped}
-use Rattle.outbox.specs.declared.Dropped.TheVariants as D
+use Rattle.outbox.specs.Dropped as D
+use Rattle.outbox.specs.Dropped.{Dropped}
 
 -- a frame that append takes, 0: else 13 (under four bytes), 10, 11, 13 (bytes over or missing), 12
 unfoldable pub frame_number : List ℕ → ℕ
@@ -21,6 +21,10 @@ front s = take (4 + length_in s) s
 -- what a private function answers: its size, 0 where append would not take it
 unfoldable pub front_size : List ℕ → ℕ
 front_size s = cond (eqb (frame_number (front s)) 0) (4 + length_in s) 0
+
+-- a size, none where it is 0
+abbrev pub size_there : ℕ → Option ℕ
+size_there k = cond (eqb k 0) None (Some k)
 
 -- whole frames that append takes, end to end; so many bytes still belong to the last one
 unfoldable pub whole_from : ℕ → List ℕ → Bool

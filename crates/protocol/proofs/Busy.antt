@@ -14,16 +14,16 @@ use Rattle.slots.specs.declared.Slot.{Slot}
 use Rattle.slots.specs.declared.Query.TheVariants.{Taken}
 use Rattle.message.specs.Message.{response}
 use Rattle.message.specs.declared.Received.TheVariants.{DeselectReq}
-use Rattle.message.specs.declared.Send.{Send}
+use Rattle.message.specs.Send.{Send}
 use Rattle.state.specs.State.{selected, with_phase, received_open}
 use Rattle.state.specs.declared.Phase.TheVariants.{NotSelected}
 use Rattle.state.specs.declared.Session.{Session}
 use Rattle.state.proofs.Phases.{selected_connected}
 use Rattle.allowed.specs.States.{allows}
 use Rattle.link.specs.Rows as link
-use Rattle.link.specs.declared.Linked.{Linked}
+use Rattle.link.specs.Linked.{Linked}
 use Rattle.session.specs.Table.{by_link, came_of, event_of, step_of}
-use Rattle.session.specs.declared.Stepped.{Stepped}
+use Rattle.session.specs.Stepped.{Stepped}
 use Rattle.session.specs.declared.Event.TheVariants.{Received as on_received}
 use Rattle.session.proofs.Gates.{let_through, by_gate}
 use Rattle.protocol.specs.Protocol.{received_slot, Busy, Done, LosesNone}

@@ -10,19 +10,18 @@ use Rattle.frame.specs.Header.{data_header}
 use Rattle.frame.specs.declared.Header.{Header}
 use Rattle.frame.proofs.Laws.{data_w}
 use Rattle.message.specs.declared.Text.{Text}
-use Rattle.message.specs.declared.Send.{Send}
-use Rattle.message.specs.declared.Send.TheVariants.{Nothing, Message}
+use Rattle.message.specs.Send.{Send, Nothing, Message}
 use Rattle.state.specs.State.{fresh, with_flag}
 use Rattle.state.specs.declared.Device.{Device}
 use Rattle.state.specs.declared.Link.{Link}
 use Rattle.state.specs.declared.Session.{Session}
 use Rattle.allowed.specs.States.{allows}
-use Rattle.link.specs.declared.Linked.{Linked}
+use Rattle.link.specs.Linked.{Linked}
 use Rattle.device.specs.Rows as device
-use Rattle.device.specs.declared.Acted.{Acted}
+use Rattle.device.specs.Acted.{Acted}
 use Rattle.device.proofs.Rows.{Ends, drops, complains, closes, aborts, opens, hears, data_ends}
 use Rattle.session.specs.Table.{told, wish_of, event_of, step_of}
-use Rattle.session.specs.declared.Stepped.{Stepped}
+use Rattle.session.specs.Stepped.{Stepped}
 use Rattle.session.specs.declared.Wish.TheVariants.{Flag, Primary}
 use Rattle.session.specs.declared.Event.{Event}
 use Rattle.session.specs.declared.Event.TheVariants.{Wish as on_wish}

@@ -11,8 +11,7 @@ use Rattle.frame.specs.declared.Header.{Header}
 use Rattle.slots.specs.Slots.{no_slots, is_there}
 use Rattle.slots.specs.declared.Query.TheVariants.{Taken}
 use Rattle.slots.proofs.Found.{no_slots_there, free_not_taken}
-use Rattle.message.specs.declared.Send.{Send}
-use Rattle.message.specs.declared.Send.TheVariants.{Nothing}
+use Rattle.message.specs.Send.{Send, Nothing}
 use Rattle.state.specs.State.{fresh, selected, with_phase, numbered, emptied}
 use Rattle.state.specs.declared.Phase.TheVariants.{NotSelected}
 use Rattle.state.specs.declared.Link.{Link}
@@ -21,10 +20,10 @@ use Rattle.state.specs.declared.Session.{Session}
 use Rattle.state.proofs.Phases.{selected_connected}
 use Rattle.allowed.specs.States.{allows}
 use Rattle.link.specs.Rows as link
-use Rattle.link.specs.declared.Linked.{Linked}
+use Rattle.link.specs.Linked.{Linked}
 use Rattle.session.specs.Gates.{gate_of}
 use Rattle.session.specs.Table.{by_link, came_of, wish_of, timer_of, event_of, step_of}
-use Rattle.session.specs.declared.Stepped.{Stepped}
+use Rattle.session.specs.Stepped.{Stepped}
 use Rattle.session.specs.declared.Event.{Event}
 use Rattle.session.proofs.Gates.{Passed, let_through, by_gate}
 use Rattle.protocol.specs.Protocol.{NoneOpen, Gone, Disconnects, disconnect, t6, t7, t8}

@@ -16,10 +16,10 @@ use Rattle.state.specs.declared.Device.{Device}
 use Rattle.state.specs.declared.Link.{Link}
 use Rattle.state.specs.declared.Session.{Session}
 use Rattle.link.specs.Rows as link
-use Rattle.device.specs.declared.Acted.{Acted}
+use Rattle.device.specs.Acted.{Acted}
 use Rattle.device.proofs.Rows.{Ends, drops, complains, closes, aborts, opens, hears, data_ends}
 use Rattle.session.specs.Table.{by_device, data_of, came_of, event_of, step_of}
-use Rattle.session.specs.declared.Stepped.{Stepped}
+use Rattle.session.specs.Stepped.{Stepped}
 use Rattle.session.specs.declared.Event.{Event}
 use Rattle.session.specs.declared.Event.TheVariants.{Received as on_received}
 use Rattle.session.proofs.Gates.{by_gate}

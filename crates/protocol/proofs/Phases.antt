@@ -15,10 +15,10 @@ use Rattle.state.specs.declared.Session.{Session}
 use Rattle.state.proofs.Phases.{selected_connected, selected_is, unconnected_is}
 use Rattle.allowed.specs.States.{allows}
 use Rattle.link.specs.Rows as link
-use Rattle.link.specs.declared.Linked.{Linked}
-use Rattle.device.specs.declared.Acted.{Acted}
+use Rattle.link.specs.Linked.{Linked}
+use Rattle.device.specs.Acted.{Acted}
 use Rattle.session.specs.Table.{step_of}
-use Rattle.session.specs.declared.Stepped.{Stepped}
+use Rattle.session.specs.Stepped.{Stepped}
 use Rattle.session.specs.declared.Wish.{Wish}
 use Rattle.session.specs.declared.Wish.TheVariants.{Connect, Disconnect, Flag, Primary, Reply, Abort, Linktest, Separate}
 use Rattle.session.specs.declared.Event.{Event}

@@ -6,7 +6,7 @@ use mathlib.Core.Path.{◌≡◌, ap, sym, ◌∙◌}
 use Rattle.state.specs.State.{selected}
 use Rattle.state.specs.declared.Session.{Session}
 use Rattle.session.specs.Table.{step_of}
-use Rattle.session.specs.declared.Stepped.{Stepped}
+use Rattle.session.specs.Stepped.{Stepped}
 use Rattle.session.specs.declared.Event.{Event}
 use Rattle.protocol.specs.Protocol.{delivers, is_data, Quiet}
 use Rattle.protocol.proofs.Rows.{Does, stays, judges, links, carries, by_hearing, answers, step_does}

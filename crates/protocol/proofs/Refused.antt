@@ -7,7 +7,7 @@ use native.Mathlib.Omega.{arith}
 use borrow.Author.Tests.{ne_eqb}
 use Rattle.state.specs.declared.Session.{Session}
 use Rattle.session.specs.Table.{told, step_of}
-use Rattle.session.specs.declared.Stepped.{Stepped}
+use Rattle.session.specs.Stepped.{Stepped}
 use Rattle.session.specs.declared.Event.{Event}
 use Rattle.protocol.specs.Protocol.{acts, Unchanged}
 use Rattle.protocol.proofs.Rows.{Does, stays, judges, links, carries, by_hearing, answers, step_does}

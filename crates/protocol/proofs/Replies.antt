@@ -19,7 +19,7 @@ use Rattle.slots.proofs.Found.{named_system, named_taken}
 use Rattle.text.specs.Text.{judged_of}
 use Rattle.message.specs.declared.Text.{Text}
 use Rattle.message.specs.declared.Text.TheVariants.{Empty, Wished}
-use Rattle.message.specs.declared.Send.TheVariants.{Nothing, Message}
+use Rattle.message.specs.Send.{Nothing, Message}
 use Rattle.state.specs.State.{fresh, selected, received_freed}
 use Rattle.state.specs.declared.Device.{Device}
 use Rattle.state.specs.declared.Session.{Session}
@@ -27,9 +27,9 @@ use Rattle.allowed.specs.States.{allows_open, allows_test, allows}
 use Rattle.allowed.proofs.Slots.{Allowed, allows_facts, facts_allow, closed_allowed, closed_not_there, primary_range}
 use Rattle.allowed.proofs.States.{holds, holds_allowed}
 use Rattle.device.specs.Rows as device
-use Rattle.device.specs.declared.Acted.{Acted}
+use Rattle.device.specs.Acted.{Acted}
 use Rattle.session.specs.Table.{told, by_device, wish_of, event_of, step_of}
-use Rattle.session.specs.declared.Stepped.{Stepped}
+use Rattle.session.specs.Stepped.{Stepped}
 use Rattle.session.specs.declared.Wish.TheVariants.{Reply, Abort}
 use Rattle.session.specs.declared.Event.TheVariants.{Wish as on_wish}
 use Rattle.session.proofs.Gates.{let_through, by_gate}
@@ -136,7 +136,8 @@ module _ (s : Session) (n : ℕ) (size : length s.device.received ≡ 32) where
   module _ (text : List ℕ) where
     -- A REPLY THAT IS ASKED FOR GOES OUT ONLY FOR A RECEIVED PRIMARY THAT IS STILL OPEN, with its stream, system bytes and function one more, and closes it;
     -- after it, the same reply is 25.
-    pub replied : ((step_of s (on_wish (Reply n)) text).send ≡ Nothing → ⊥) → Replied s n ((primary_at s n).function + 1) Wished (step_of s (on_wish (Reply n)) text)
+    pub replied : ((step_of s (on_wish (Reply n)) text).send ≡ Nothing → ⊥)
+        → Replied s n ((primary_at s n).function + 1) Wished (step_of s (on_wish (Reply n)) text)
     unfolding event_of wish_of device.reply_of
     replied =
         by_gate (Goes s n ((primary_at s n).function + 1) Wished) s (on_wish (Reply n)) text

@@ -13,19 +13,19 @@ use Rattle.slots.specs.Slots.{is_there}
 use Rattle.slots.specs.declared.Query.TheVariants.{Answered}
 use Rattle.text.specs.Text.{judged_of}
 use Rattle.message.specs.declared.Received.TheVariants.{Data}
-use Rattle.message.specs.declared.Send.TheVariants.{Nothing}
+use Rattle.message.specs.Send.{Nothing}
 use Rattle.state.specs.State.{fresh, selected, own_freed}
 use Rattle.state.specs.declared.Link.{Link}
 use Rattle.state.specs.declared.Device.{Device}
 use Rattle.state.specs.declared.Session.{Session}
 use Rattle.allowed.specs.States.{allows}
 use Rattle.link.specs.Rows as link
-use Rattle.link.specs.declared.Linked.{Linked}
+use Rattle.link.specs.Linked.{Linked}
 use Rattle.device.specs.Rows as device
-use Rattle.device.specs.declared.Acted.{Acted}
+use Rattle.device.specs.Acted.{Acted}
 use Rattle.device.proofs.Rows.{GoodPrimary, dropped_32, dropped_33, Ends, drops, complains, closes, aborts, opens, hears, data_ends}
 use Rattle.session.specs.Table.{told, by_link, by_device, step_of}
-use Rattle.session.specs.declared.Stepped.{Stepped}
+use Rattle.session.specs.Stepped.{Stepped}
 use Rattle.session.specs.declared.Event.{Event}
 use Rattle.session.specs.declared.Event.TheVariants.{Received as on_received}
 use Rattle.session.proofs.Gates.{Gated, passes, refuses, judges as judged}

@@ -24,7 +24,7 @@ use Rattle.message.specs.declared.Received.TheVariants.{Data}
 use Rattle.state.specs.declared.Session.{Session}
 use Rattle.allowed.proofs.States.{holds}
 use Rattle.session.specs.Table.{step_of}
-use Rattle.session.specs.declared.Stepped.{Stepped}
+use Rattle.session.specs.Stepped.{Stepped}
 use Rattle.session.specs.declared.Event.{Event}
 use Rattle.session.specs.declared.Event.TheVariants.{Received as on_received}
 use Rattle.protocol.specs.Protocol.{delivers, answered_at, own_of, Awaits, Delivered, NotSwapped}

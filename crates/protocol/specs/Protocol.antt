@@ -13,8 +13,7 @@ use Rattle.message.specs.declared.Received.TheVariants.{Reject, OtherPType, Othe
 use Rattle.message.specs.declared.Received.TheVariants.{LinktestRsp, SeparateReq, Data}
 use Rattle.message.specs.declared.Text.{Text}
 use Rattle.message.specs.declared.Text.TheVariants.{Empty, About, Wished}
-use Rattle.message.specs.declared.Send.{Send}
-use Rattle.message.specs.declared.Send.TheVariants.{Nothing, Message}
+use Rattle.message.specs.Send.{Send, Nothing, Message}
 use Rattle.state.specs.State.{connected, selected, with_phase, received_freed, own_freed, emptied, received_open}
 use Rattle.state.specs.declared.Phase.TheVariants.{NotConnected, NotSelected, Selected}
 use Rattle.state.specs.declared.Phase.{Phase}
@@ -22,7 +21,7 @@ use Rattle.state.specs.declared.Device.{Device}
 use Rattle.state.specs.declared.Session.{Session}
 use Rattle.device.specs.Rows.{received_at, received_named}
 use Rattle.session.specs.Table.{told, step_of}
-use Rattle.session.specs.declared.Stepped.{Stepped}
+use Rattle.session.specs.Stepped.{Stepped}
 use Rattle.session.specs.declared.Timer.{Timer}
 use Rattle.session.specs.declared.Timer.TheVariants.{T3, T6, T7, T8}
 use Rattle.session.specs.declared.Wish.{Wish}

@@ -1,11 +1,11 @@
 -- An outbox as a plain queue: the frames that wait, oldest first, and the bytes behind them.
 use Rattle.std.specs.Prelude.{ℕ, cond, List, [], ◌∷◌, ◌++◌, ◌≡◌, eqb, leb, length, drop, replicate}
 use Rattle.wire.specs.Lists.{Each, joined}
-use Rattle.wire.specs.declared.Counted.{Counted}
-use Rattle.wire.specs.declared.Counted.TheVariants as C
+use Rattle.refusal.specs.Answer.{Counted}
+use Rattle.refusal.specs.Answer as C
 use Rattle.outbox.specs.Outbox.{frame_number, append_of, append_after, next_number, next_of, drop_of, control_after, data_after}
-use Rattle.outbox.specs.declared.Dropped.{Dropped}
-use Rattle.outbox.specs.declared.Dropped.TheVariants as D
+use Rattle.outbox.specs.Dropped as D
+use Rattle.outbox.specs.Dropped.{Dropped}
 
 pub record Box : Type 0 where
   pub waiting : List (List ℕ)

@@ -15,19 +15,19 @@ use Rattle.slots.specs.Slots.{slot_of, no_test, is_there, is_primary}
 use Rattle.slots.specs.declared.Query.TheVariants.{Named}
 use Rattle.slots.proofs.Found.{none_there}
 use Rattle.message.specs.declared.Text.{Text}
-use Rattle.message.specs.declared.Send.{Send}
+use Rattle.message.specs.Send.{Send}
 use Rattle.state.specs.State.{fresh, is_connected, is_selected, with_phase, with_test, numbered, with_received, own_freed}
 use Rattle.state.specs.declared.Phase.TheVariants.{NotSelected, Selected}
 use Rattle.state.specs.declared.Link.{Link}
 use Rattle.state.specs.declared.Session.{Session}
 use Rattle.state.proofs.Phases.{unselected}
 use Rattle.link.specs.Rows as link
-use Rattle.link.specs.declared.Linked.{Linked}
+use Rattle.link.specs.Linked.{Linked}
 use Rattle.device.specs.Rows as device
-use Rattle.device.specs.declared.Acted.{Acted}
+use Rattle.device.specs.Acted.{Acted}
 use Rattle.device.proofs.Rows.{Ends, drops, complains, closes, aborts, opens, hears, data_ends}
 use Rattle.session.specs.Table.{by_link, by_device, step_of}
-use Rattle.session.specs.declared.Stepped.{Stepped}
+use Rattle.session.specs.Stepped.{Stepped}
 use Rattle.session.specs.declared.Event.{Event}
 use Rattle.session.proofs.Rows.{LinkRow, rejecting_row, rejected_row, select_req_row, deselect_req_row, linktest_req_row, linktest_rsp_row, separate_req_row}
 use Rattle.session.proofs.Rows.{connect_row, disconnect_row, linktest_row, separate_row, t6_row, t7_row, t8_row}

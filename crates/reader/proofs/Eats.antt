@@ -21,9 +21,7 @@ use Rattle.reader.specs.Asked.{ReadyAt, Ready, On}
 use Rattle.reader.specs.declared.Phase.{Phase}
 use Rattle.reader.specs.declared.Phase.TheVariants.{Format, Length, Content, Refused}
 use Rattle.reader.specs.declared.Reader.{Reader}
-use Rattle.reader.specs.declared.Answer.{Answer}
-use Rattle.reader.specs.declared.Answer.TheVariants.{More, Complete, Refusal}
-use Rattle.reader.specs.declared.Fed.{Fed}
+use Rattle.reader.specs.Answer.{Answer, More, Complete, Refusal, Fed}
 use Rattle.reader.proofs.Right.{Out, goes, ends, step_right}
 use Rattle.reader.proofs.Allowed.{Going, Held, allows_held, live_allows, refused_allows, state_reader}
 
@@ -82,7 +80,7 @@ ready_at : (p : Phase) (st : List ℕ) → LiveAt p st → ReadyAt p
 ready_at Format st at = tt
 ready_at (Length c j v) st at = (at.some, at.few, at.small)
 ready_at (Content c l) st at = at.some
-ready_at (Refused e) st at = tt
+ready_at (Refused e) st at = at
 
 pub ready : (r : Reader) → On r → Ready r
 unfolding status
@@ -148,17 +146,23 @@ module _ (s : State) (k : ℕ) (next : Fed) (a : Answer) where
   pub after_more : a ≡ More → after a s k next ≡ next
   after_more e = rw e
 
-  pub after_complete : a ≡ Complete → after a s k next ≡ fed Complete k (reader_of s)
-  after_complete e = rw e
-
-  pub after_refusal : (x : ℕ) → a ≡ Refusal x → after a s k next ≡ fed (Refusal x) k (reader_of s)
-  after_refusal x e = rw e
+  pub after_done : (a ≡ More → ⊥) → after a s k next ≡ fed a k (reader_of s)
+  after_done h = done a h
+    where
+      done : (x : Answer) → (x ≡ More → ⊥) → after x s k next ≡ fed x k (reader_of s)
+      done More n = absurd (n refl)
+      done Complete n = refl
+      done (Refusal e) n = refl
 
 -- a turn of the loop: after the byte at i the reader is r', and a its answer
 pub record Turned (p : List ℕ) (s₀ : State) (i : ℕ) (r' : Reader) (a : Answer) : Type 0 where
   pub on : a ≡ More → On r'
   pub eats : eat s₀ 0 p ≡ after a (state_of r') (i + 1) (eat (state_of r') (i + 1) (drop (i + 1) p))
   pub holds : reader_of (state_of r') ≡ r'
+
+-- the list allows a reader behind a byte
+pub step_allowed : (r : Reader) (b : ℕ) (r' : Reader) → b ≤ 255 → On r → r' ≡ reader_of (step (state_of r) b) → allows r' ≡ true
+step_allowed r b r' byte o is = rw is (step_kept r b byte o).allowed
 
 pub turned : (p : List ℕ) (s₀ : State) (r : Reader) (i : ℕ) (r' : Reader) (a : Answer) → i < length p → get_or p i 0 ≤ 255 → On r
     → eat s₀ 0 p ≡ eat (state_of r) i (drop i p) → r' ≡ reader_of (step (state_of r) (get_or p i 0)) → a ≡ status (state_of r') → Turned p s₀ i r' a

@@ -5,5 +5,8 @@ pub mod Right
 pub mod Allowed
 pub mod Eats
 pub mod Turns
-pub mod Determined
 pub mod Fresh
+pub mod Listed
+pub mod Answered
+pub mod Once
+pub mod Determined

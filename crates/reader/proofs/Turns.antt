@@ -2,9 +2,7 @@
 -- before the last is more.
 use Prim.Native.Nat.{ℕ, zero, suc, ◌+◌, ◌-◌, ◌≤◌, ◌<◌}
 use mathlib.Core.Path.{◌≡◌, refl, sym, ap, subst, ◌∙◌}
-use mathlib.Core.Bool.{true, false}
 use mathlib.Core.List.{List, [], ◌∷◌}
-use native.Mathlib.Decide.{ℕ_discrete}
 use native.Mathlib.Numerals.{add-one}
 use native.Mathlib.Omega.{arith}
 use borrow.Author.Tests.{le-leb, ne_eqb}
@@ -18,27 +16,15 @@ use Rattle.follow.proofs.Sizes.{content_fill}
 use Rattle.reader.specs.State.{State, state, state_of, reader_of}
 use Rattle.reader.specs.Step.{content_from, at_content, step_at, step}
 use Rattle.reader.specs.Feed.{status, after, eat}
-use Rattle.reader.specs.Items.{is_item, shown, reached, met, seek}
+use Rattle.reader.specs.Items.{shown, reached, met, seek}
 use Rattle.reader.proofs.Rest.{RestAt, Live}
 use Rattle.reader.specs.Asked.{On, Low, Turned}
 use Rattle.reader.specs.declared.Phase.{Phase}
 use Rattle.reader.specs.declared.Phase.TheVariants.{Content}
 use Rattle.reader.specs.declared.Reader.{Reader}
-use Rattle.reader.specs.declared.Answer.{Answer}
-use Rattle.reader.specs.declared.Answer.TheVariants.{More, Complete, Refusal}
-use Rattle.reader.specs.declared.Found.{Found}
-use Rattle.reader.specs.declared.Found.TheVariants.{Nothing, Item}
-use Rattle.reader.specs.declared.Reached.{Reached}
+use Rattle.reader.specs.Answer.{Answer, More, Found, Nothing}
 use Rattle.reader.proofs.Right.{step_right}
 use Rattle.reader.proofs.Eats.{more_left, held, Kept, kept, eat_step}
-
--- one byte more within a limit
-pub low_more : (limit : ℕ) (p : List ℕ) (from q : ℕ) → Low limit p from q → get_or p (from + q) 0 ≤ limit → Low limit p from (q + 1)
-low_more limit p from q low h j k = go (ℕ_discrete j q)
-  where
-    go : Dec (j ≡ q) → get_or p (from + j) 0 ≤ limit
-    go (yes e) = subst (λ (y : ℕ). get_or p (from + y) 0 ≤ limit) (sym e) h
-    go (no e) = low j (omega arith)
 
 pub seek_step : (s : State) (k i : ℕ) (p : List ℕ) → i < length p
     → let b = get_or p i 0 in
@@ -67,7 +53,8 @@ one_ran p i s h byte live more =
     }
 
 -- a byte that leads to s₁, which goes on and shows nothing, and then m more
-then_ran : (p : List ℕ) (i m : ℕ) (s s₁ : State) (x : Found) (s' : State) → i < length p → step s (get_or p i 0) ≡ s₁ → status s₁ ≡ More → shown s (get_or p i 0) ≡ Nothing
+then_ran : (p : List ℕ) (i m : ℕ) (s s₁ : State) (x : Found) (s' : State) → i < length p
+    → step s (get_or p i 0) ≡ s₁ → status s₁ ≡ More → shown s (get_or p i 0) ≡ Nothing
     → Ran p (i + 1) m s₁ x s' → Ran p i (suc m) s x s'
 then_ran p i m s s₁ x s' h stepped more none r =
     record {
@@ -83,7 +70,8 @@ then_ran p i m s s₁ x s' h stepped more none r =
           let e : k + 1 + m ≡ k + suc m = omega arith in
           let d : i + 1 + m ≡ i + suc m = omega arith in
           seek_step s k i p h
-          ∙ ap (λ (z : Found). met (status (step s (get_or p i 0))) z (step s (get_or p i 0)) (k + 1) (seek (step s (get_or p i 0)) (k + 1) (drop (i + 1) p))) none
+          ∙ ap (λ (z : Found).
+          met (status (step s (get_or p i 0))) z (step s (get_or p i 0)) (k + 1) (seek (step s (get_or p i 0)) (k + 1) (drop (i + 1) p))) none
           ∙ ap (λ (y : State). met (status y) Nothing y (k + 1) (seek y (k + 1) (drop (i + 1) p))) stepped
           ∙ ap (λ (a : Answer). met a Nothing s₁ (k + 1) (seek s₁ (k + 1) (drop (i + 1) p))) more
           ∙ r.seeks (k + 1)
@@ -162,6 +150,7 @@ ran_turned r p i m x s' r' some within shows ran is =
     record {
       some = some;
       within = within;
+      allowed = rw is ran.keeps.allowed;
       on = λ a. record { full = rw is ran.keeps.full; allowed = rw is ran.keeps.allowed; more = a };
       holds = ap reader_of e ∙ sym is;
       eats = λ k. ran.eats k ∙ ap (λ (y : State). after (status y) y (k + m) (eat y (k + m) (drop (i + m) p))) (sym e);
@@ -172,7 +161,8 @@ ran_turned r p i m x s' r' some within shows ran is =
     }
 
 -- one byte
-pub byte_turned : (r : Reader) (p : List ℕ) (i : ℕ) (r' : Reader) → On r → i < length p → get_or p i 0 ≤ 255 → r' ≡ reader_of (step (state_of r) (get_or p i 0)) → Turned r p i r' 1
+pub byte_turned : (r : Reader) (p : List ℕ) (i : ℕ) (r' : Reader) → On r → i < length p → get_or p i 0 ≤ 255
+    → r' ≡ reader_of (step (state_of r) (get_or p i 0)) → Turned r p i r' 1
 byte_turned r p i r' o h byte is =
     ran_turned r p i 1 (shown (state_of r) (get_or p i 0)) (step (state_of r) (get_or p i 0)) r' (omega arith) (omega arith) refl
     (one_ran p i (state_of r) h byte (held r o).live o.more) is
@@ -197,38 +187,3 @@ content_room r c l o e =
     let (t, (q, w)) = (held r o).live.follows in
     let w' = subst (λ (x : Phase). RestAt r.form x st t) e w in
     omega (arith, q, (content_fill r.form st c l t w').0, (held r o).live.within)
-
--- ---- the loops, a turn being from the place i to i + m
-
-abbrev pub EatsOn : List ℕ → State → ℕ → Reader → ℕ → Answer → Type 0
-EatsOn p s₀ i r' m a = eat s₀ 0 p ≡ after a (state_of r') (i + m) (eat (state_of r') (i + m) (drop (i + m) p))
-
-abbrev pub SeeksOn : List ℕ → State → ℕ → Reader → ℕ → Answer → Found → Type 0
-SeeksOn p s₀ i r' m a x = seek s₀ 0 p ≡ met a x (state_of r') (i + m) (seek (state_of r') (i + m) (drop (i + m) p))
-
-pub eats_on : (p : List ℕ) (s₀ : State) (r : Reader) (i : ℕ) (r' : Reader) (m : ℕ) (a : Answer) → Turned r p i r' m → a ≡ status (state_of r')
-    → eat s₀ 0 p ≡ eat (state_of r) i (drop i p) → EatsOn p s₀ i r' m a
-eats_on p s₀ r i r' m a t e h = h ∙ t.eats i ∙ ap (λ (x : Answer). after x (state_of r') (i + m) (eat (state_of r') (i + m) (drop (i + m) p))) (sym e)
-
-pub seeks_on : (p : List ℕ) (s₀ : State) (r : Reader) (i : ℕ) (r' : Reader) (m : ℕ) (a : Answer) (x : Found) → Turned r p i r' m → a ≡ status (state_of r')
-    → x ≡ shown (state_of r) (get_or p i 0) → seek s₀ 0 p ≡ seek (state_of r) i (drop i p)
-    → SeeksOn p s₀ i r' m a x
-seeks_on p s₀ r i r' m a x t e f h =
-    h ∙ t.seeks i
-    ∙ ap (λ (y : Answer). met y (shown (state_of r) (get_or p i 0)) (state_of r') (i + m) (seek (state_of r') (i + m) (drop (i + m) p))) (sym e)
-    ∙ ap (λ (y : Found). met a y (state_of r') (i + m) (seek (state_of r') (i + m) (drop (i + m) p))) (sym f)
-
-module _ (s : State) (k : ℕ) (next : Reached) (a : Answer) where
-  pub met_nothing : (x : Found) → a ≡ More → is_item x ≡ false → met a x s k next ≡ next
-  met_nothing Nothing e f = rw e
-  met_nothing (Item d c v) e f = let z : ◌≡◌ {A = ℕ} 0 1 = cc in absurd (omega arith)
-
-  pub met_item : (x : Found) → a ≡ More → is_item x ≡ true → met a x s k next ≡ reached x More k (reader_of s)
-  met_item Nothing e f = let z : ◌≡◌ {A = ℕ} 0 1 = cc in absurd (omega arith)
-  met_item (Item d c v) e f = rw e
-
-  pub met_complete : (x : Found) → a ≡ Complete → met a x s k next ≡ reached x Complete k (reader_of s)
-  met_complete x e = rw e
-
-  pub met_refusal : (x : Found) (n : ℕ) → a ≡ Refusal n → met a x s k next ≡ reached Nothing (Refusal n) k (reader_of s)
-  met_refusal x n e = rw e

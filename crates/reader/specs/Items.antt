@@ -6,11 +6,7 @@ use Rattle.reader.specs.Feed.{allows, status}
 use Rattle.reader.specs.declared.Phase.{Phase}
 use Rattle.reader.specs.declared.Phase.TheVariants.{Format, Length, Content, Refused}
 use Rattle.reader.specs.declared.Reader.{Reader}
-use Rattle.reader.specs.declared.Answer.{Answer}
-use Rattle.reader.specs.declared.Answer.TheVariants.{More, Complete, Refusal}
-use Rattle.reader.specs.declared.Found.{Found}
-use Rattle.reader.specs.declared.Found.TheVariants.{Nothing, Item}
-use Rattle.reader.specs.declared.Reached.{Reached}
+use Rattle.reader.specs.Answer.{Answer, More, Complete, Refusal, Found, Nothing, Item, Reached}
 
 abbrev pub is_item : Found → Bool
 is_item Nothing = false

@@ -1,20 +1,29 @@
+// The fed reader, for good texts or for lean ones: pieces in, more, complete or a refusal out.
 #![tactic(auto)]
 
-ghost use Rattle.std.specs.Prelude.{◌≡◌, true, ◌+◌, ◌*◌, ◌-◌, ◌^◌, ◌≤◌, ◌<◌, length};
-ghost use Rattle.levels.specs.Levels.{stack, Clean};
+ghost use Rattle.std.specs.Prelude.{◌≡◌, true, ◌+◌, ◌*◌, ◌-◌, ◌^◌, ◌≤◌, ◌<◌, length, ℕ, slice_index};
+ghost use Rattle.levels.specs.Levels.{stack};
+ghost use Rattle.refusal.specs.Number.{number_of};
+ghost use Rattle.reader.specs.Answer.{Answer, answer_in, fed_in, found_in, reached_in};
 ghost use Rattle.reader.specs.State.{state, refused, fresh, state_of, reader_in, reader_of};
-ghost use Rattle.reader.specs.Step.{known, whole, at_format, at_list, at_plain, at_length, at_content, step};
-ghost use Rattle.reader.specs.Feed.{allows_phase, allows_frame, allows_end, allows, status, status_of, eat, fed_of};
-ghost use Rattle.reader.specs.Items.{is_item, shown, seek, next_of};
-ghost use Rattle.reader.specs.Asked.{Spot, Ready, On, Low, Turned};
+ghost use Rattle.reader.specs.Step.{known, step};
+ghost use Rattle.reader.specs.Feed.{refusal_number, levels_in, allows_phase, allows_at, allows, status, status_of, eat, fed_of};
+ghost use Rattle.reader.specs.Items.{shown, seek, next_of};
+ghost use Rattle.reader.specs.Asked.{Placed, Spotted, Ready, On, Low, opening_at, Turned};
 ghost use Rattle.item.specs.Code.{kind_of, is_plain};
 ghost use Rattle.item.specs.Item.{limit};
 
+mod spot;
+
+use follow::Rest;
 use item::{Form, Kind};
 use levels::Levels;
+use refusal::Refusal;
+use spot::Spot;
 use wire::LONGEST;
 
-// What the next byte is. At least one length byte, or one content byte, is left in Length and Content.
+/// What the next byte is. At least one length byte, or one content byte, is left in Length and Content.
+// Any number may stand in Refused: a host passes any state, and one that breaks the list of docs/STATES.md is refused with 14.
 #[derive(Clone, Copy)]
 pub enum Phase {
     Format,
@@ -30,7 +39,7 @@ pub enum Phase {
     Refused(u32),
 }
 
-// The form that is asked for, N, the bytes read, and awaited[d - 1] the items still awaited at depth d, the innermost open depth being level.
+/// The form that is asked for, N, the bytes read, and awaited[d - 1] the items still awaited at depth d, the innermost open depth being level.
 #[derive(Clone, Copy)]
 pub struct Reader {
     pub form: Form,
@@ -41,221 +50,104 @@ pub struct Reader {
     pub phase: Phase,
 }
 
-#[derive(Clone, Copy)]
-pub enum Answer {
+/// What a feed answers that is not refused: more is awaited, or the text is complete.
+#[derive(Clone, Copy, Debug, PartialEq, Eq)]
+pub enum Progress {
     More,
     Complete,
-    Refusal(u32),
 }
 
-// What a feed answers, the bytes of the piece that it consumed, and the reader after it.
+/// What a feed answers, the bytes of the piece that it consumed, and the reader after it.
 #[derive(Clone, Copy)]
 pub struct Fed {
-    pub answer: Answer,
+    pub answer: Result<Progress, Refusal>,
     pub consumed: usize,
     pub reader: Reader,
 }
 
-// The item that a byte shows, as the last of its length bytes: its depth, code and length.
-#[derive(Clone, Copy)]
-pub enum Found {
-    Nothing,
-    Item(usize, u32, usize),
+/// The item that a byte shows, as the last of its length bytes.
+#[derive(Clone, Copy, Debug, PartialEq, Eq)]
+pub struct Item {
+    pub depth: usize,
+    pub code: u32,
+    pub length: usize,
 }
 
-// What was found, what a feed of the bytes consumed answers, how many they are, and the reader after them.
+/// What was found, what a feed of the bytes consumed answers, how many they are, and the reader after them.
 #[derive(Clone, Copy)]
 pub struct Reached {
-    pub found: Found,
-    pub answer: Answer,
+    pub found: Option<Item>,
+    pub answer: Result<Progress, Refusal>,
     pub consumed: usize,
     pub reader: Reader,
 }
 
-// The reader behind the bytes of a piece that are taken at once, and how many they are.
+// The reader behind the bytes of a piece that are taken at once, and how many they are. That it is on (`On`) stays a clause of the five
+// functions below, and no field of a type of its own: `Reader` is public, and any value of it may be passed.
 #[derive(Clone, Copy)]
 struct Taken {
     reader: Reader,
     used: usize,
 }
 
+#[tactic(auto, unfolding(crate::specs::Step::known))]
 fn is_known(c: u32) -> bool
     ensures { result ≡ known c }
 {
-    match item::kind_of(c) {
-        Kind::List => true,
-        Kind::Plain(_) => true,
-        Kind::Unknown => false,
-    }
+    !matches!(item::kind_of(c), Kind::Unknown)
 }
 
 fn is_plain(c: u32) -> bool
     ensures { result ≡ is_plain (kind_of c) }
 {
-    match item::kind_of(c) {
-        Kind::List => false,
-        Kind::Plain(_) => true,
-        Kind::Unknown => false,
-    }
+    matches!(item::kind_of(c), Kind::Plain(_))
 }
 
 fn reader_in(form: Form, n: usize, k: usize, l: Levels, phase: Phase) -> Reader
     ensures { result ≡ reader_in form n k l phase }
 {
-    let level = l.level;
     let awaited = l.awaited;
     Reader {
         form,
         size: n,
         read: k,
-        level,
+        level: l.level,
         awaited,
         phase,
     }
 }
 
 // A refused reader keeps the form, N and its number, all else zero.
-fn refusal(form: Form, n: usize, number: u32) -> Reader
-    ensures { result ≡ reader_of (refused form n number) }
+fn refused(form: Form, n: usize, refusal: Refusal) -> Reader
+    ensures { result ≡ reader_of (refused form n (number_of refusal)) }
 {
-    reader_in(form, n, 0, levels::none(), Phase::Refused(number))
-}
-
-// An item is whole: the levels that await nothing are left.
-fn whole_item(form: Form, n: usize, k: usize, l: Levels) -> Reader
-    requires { Clean l }
-    ensures { result ≡ reader_of (whole form n k (stack l)) }
-{
-    reader_in(form, n, k, levels::closed(l), Phase::Format)
-}
-
-fn at_format(form: Form, n: usize, k: usize, l: Levels, b: u8) -> Reader
-    requires { Spot n k l }
-    ensures { result ≡ reader_of (at_format form n k (stack l) b) }
-{
-    let c = (b / 4) as u32;
-    let j = (b % 4) as usize;
-    if is_known(c) {
-        if j == 0 {
-            return refusal(form, n, 2);
-        }
-        let begun = levels::begun(l);
-        if follow::fits_lengths(form, c, n - k, begun, j, 0) {
-            return reader_in(
-                form,
-                n,
-                k,
-                begun,
-                Phase::Length {
-                    code: c,
-                    left: j,
-                    value: 0,
-                },
-            );
-        }
-        return refusal(form, n, 5);
-    }
-    refusal(form, n, 1)
-}
-
-fn at_list(form: Form, n: usize, k: usize, l: Levels, v: usize) -> Reader
-    requires spot { Spot n k l }
-    requires v_bound { v < 256 ^ 3 }
-    ensures { result ≡ reader_of (at_list form n k (stack l) v) }
-{
-    if v == 0 {
-        if follow::fits_items(form, n - k, l) {
-            return whole_item(form, n, k, l);
-        }
-        return refusal(form, n, 5);
-    }
-    let depth = l.level;
-    if depth == 16 {
-        return refusal(form, n, 4);
-    }
-    let members = levels::opened(l, v as u32);
-    if follow::fits_items(form, n - k, members) {
-        return reader_in(form, n, k, members, Phase::Format);
-    }
-    refusal(form, n, 5)
-}
-
-fn at_plain(form: Form, n: usize, k: usize, l: Levels, c: u32, v: usize) -> Reader
-    requires { Spot n k l }
-    ensures { result ≡ reader_of (at_plain form n k (stack l) c v) }
-{
-    let left = n - k;
-    if item::is_allowed(c, v) {
-        if v <= left {
-            if follow::fits_items(form, left - v, l) {
-                return content_from(form, n, k, l, c, v);
-            }
-        }
-        return refusal(form, n, 5);
-    }
-    refusal(form, n, 3)
-}
-
-// A content of v bytes begins, or is whole where there is none.
-fn content_from(form: Form, n: usize, k: usize, l: Levels, c: u32, v: usize) -> Reader
-    requires { Clean l }
-    ensures { result ≡ reader_of (Rattle.reader.specs.Step.content_from form n k (stack l) c v) }
-{
-    if v == 0 {
-        whole_item(form, n, k, l)
-    } else {
-        reader_in(form, n, k, l, Phase::Content { code: c, left: v })
-    }
-}
-
-fn at_length(form: Form, n: usize, k: usize, l: Levels, c: u32, j: usize, v: usize) -> Reader
-    requires spot { Spot n k l }
-    requires v_bound { v < 256 ^ 3 }
-    ensures { result ≡ reader_of (at_length form n k (stack l) c j v) }
-{
-    if 0 < j {
-        if follow::may_lead(form, v) {
-            if follow::fits_lengths(form, c, n - k, l, j, v) {
-                return reader_in(
-                    form,
-                    n,
-                    k,
-                    l,
-                    Phase::Length {
-                        code: c,
-                        left: j,
-                        value: v,
-                    },
-                );
-            }
-        }
-        return refusal(form, n, 5);
-    }
-    if c == item::L {
-        at_list(form, n, k, l, v)
-    } else {
-        at_plain(form, n, k, l, c, v)
-    }
-}
-
-fn at_content(form: Form, n: usize, k: usize, l: Levels, c: u32, left: usize, b: u8) -> Reader
-    requires spot { Spot n k l }
-    requires left_nonzero { 0 < left }
-    ensures { result ≡ reader_of (at_content form n k (stack l) c left b) }
-{
-    if b <= item::limit_byte(form, c) {
-        content_from(form, n, k, l, c, left - 1)
-    } else {
-        refusal(form, n, 6)
-    }
+    reader_in(form, n, 0, Levels::none(), Phase::Refused(refusal.into()))
 }
 
 fn levels_in(r: Reader) -> Levels
-    ensures { result ≡ Rattle.reader.specs.Feed.levels_in r }
+    ensures { result ≡ levels_in r }
 {
-    let level = r.level;
     let awaited = r.awaited;
-    Levels { awaited, level }
+    Levels {
+        awaited,
+        level: r.level,
+    }
+}
+
+// The spot so many bytes further.
+fn spot_behind(r: Reader, m: usize) -> Spot
+    requires { Spotted r.size (r.read + m) (levels_in r) }
+    ensures same_form { result.form ≡ r.form }
+    ensures same_size { result.size ≡ r.size }
+    ensures further { result.read ≡ r.read + m }
+    ensures same_levels { result.levels ≡ levels_in r }
+{
+    Spot {
+        form: r.form,
+        size: r.size,
+        read: r.read + m,
+        levels: levels_in(r),
+    }
 }
 
 // One byte more.
@@ -263,187 +155,107 @@ fn step_byte(r: Reader, b: u8) -> Reader
     requires { Ready r }
     ensures { result ≡ reader_of (step (state_of r) b) }
 {
-    let form = r.form;
-    let n = r.size;
-    let k = r.read + 1;
-    let l = levels_in(r);
-    let phase = r.phase;
-    match phase {
-        Phase::Format => at_format(form, n, k, l, b),
-        Phase::Length { code, left, value } => at_length(
-            form,
-            n,
-            k,
-            l,
+    let spot = spot_behind(r, 1);
+    match r.phase {
+        Phase::Format => spot.at_format(b),
+        Phase::Length { code, left, value } => spot.at_length(
             code,
             left - 1,
-            value * 256 + (b as usize),
+            value * 256 + b as usize,
         ),
-        Phase::Content { code, left } => at_content(form, n, k, l, code, left, b),
-        Phase::Refused(number) => refusal(form, n, number),
+        Phase::Content { code, left } => spot.at_content(code, left, b),
+        Phase::Refused(_) => r,
     }
 }
 
-// What the phase answers.
-fn status_in(r: Reader) -> Answer
-    ensures { result ≡ status (state_of r) }
+// The refusal that a refused reader keeps.
+fn refusal_in(number: u32) -> Refusal
+    requires { refusal_number number ≡ true }
+    ensures { number_of result ≡ number }
 {
-    let phase = r.phase;
-    let d = r.level;
-    match phase {
-        Phase::Format => if d == 0 {
-            Answer::Complete
-        } else {
-            Answer::More
-        },
-        Phase::Length {
-            code: _,
-            left: _,
-            value: _,
-        } => Answer::More,
-        Phase::Content { code: _, left: _ } => Answer::More,
-        Phase::Refused(number) => Answer::Refusal(number),
+    match Refusal::try_from(number) {
+        Ok(refusal) => refusal,
+        Err(_) => unreachable!(),
     }
 }
 
-fn allows_format(form: Form, n: usize, l: Levels) -> bool
-    requires { Clean l }
-    ensures { result ≡ allows_phase form Phase.Format n (stack l) }
+// What a reader that the list allows answers, by its phase.
+#[tactic(auto, using(crate::proofs::Answered::by_phase))]
+fn status_in(r: Reader) -> Result<Progress, Refusal>
+    requires { allows r ≡ true }
+    ensures { answer_in result ≡ status (state_of r) }
 {
-    let d = l.level;
-    if d == 0 {
-        return follow::fits_items(form, n, l);
+    match r.phase {
+        Phase::Format if r.level == 0 => Ok(Progress::Complete),
+        Phase::Format | Phase::Length { .. } | Phase::Content { .. } => Ok(Progress::More),
+        Phase::Refused(number) => Err(refusal_in(number)),
     }
-    if 0 < levels::top(l) {
-        return follow::fits_items(form, n, l);
-    }
-    false
 }
 
-fn allows_length(form: Form, c: u32, j: usize, v: usize, n: usize, l: Levels) -> bool
-    requires { Clean l }
-    ensures { result ≡ allows_phase form (Phase.Length c j v) n (stack l) }
+// Of a refused reader all but its number is zero; any other has N, the bytes read and the levels within bounds.
+#[tactic(auto, using(crate::proofs::Listed::at_going, crate::proofs::Listed::at_refused))]
+fn allows_at(r: Reader) -> bool
+    ensures { result ≡ allows_at r.phase r }
 {
-    let d = l.level;
-    if d == 0 {
-        return false;
+    match r.phase {
+        Phase::Refused(_) => r.read == 0 && r.level == 0 && levels_in(r).is_clean(),
+        _ => r.size <= LONGEST && r.read <= r.size && levels_in(r).is_clean(),
     }
-    if is_known(c) {
-        if j == 0 {
-            return false;
+}
+
+// What the phase asks, with so many bytes left.
+#[tactic(auto, using(crate::proofs::Listed::phase_allowed))]
+fn allows_phase(r: Reader) -> bool
+    requires { Placed r }
+    ensures { result ≡ allows_phase r.form r.phase (r.size - r.read) (stack (levels_in r)) }
+{
+    let l = levels_in(r);
+    let rest = Rest {
+        form: r.form,
+        bytes: r.size - r.read,
+        levels: l,
+    };
+    match r.phase {
+        Phase::Format => (l.level == 0 || 0 < l.top()) && rest.fits_items(),
+        Phase::Length { code, left, value } => {
+            0 < l.level
+                && is_known(code)
+                && 0 < left
+                && left <= 3
+                && follow::high_part(value, 3 - left) == 0
+                && rest.fits_lengths(code, left, value)
         }
-        if 3 < j {
-            return false;
+        Phase::Content { code, left } => {
+            0 < l.level
+                && is_plain(code)
+                && 0 < left
+                && left <= rest.bytes
+                && Rest {
+                    bytes: rest.bytes - left,
+                    ..rest
+                }
+                .fits_items()
         }
-        if follow::high_part(v, 3 - j) == 0 {
-            return follow::fits_lengths(form, c, n, l, j, v);
-        }
+        Phase::Refused(number) => matches!(number, 1..=6),
     }
-    false
 }
 
-fn allows_content(form: Form, c: u32, left: usize, n: usize, l: Levels) -> bool
-    requires { Clean l }
-    ensures { result ≡ allows_phase form (Phase.Content c left) n (stack l) }
-{
-    let d = l.level;
-    if d == 0 {
-        return false;
-    }
-    if is_plain(c) {
-        if left == 0 {
-            return false;
-        }
-        if left <= n {
-            return follow::fits_items(form, n - left, l);
-        }
-    }
-    false
-}
-
-fn allows_frame(r: Reader) -> bool
-    ensures { result ≡ allows_frame r }
-{
-    let n = r.size;
-    let k = r.read;
-    if LONGEST < n {
-        return false;
-    }
-    if n < k {
-        return false;
-    }
-    levels::is_clean(levels_in(r))
-}
-
-fn allows_end(r: Reader) -> bool
-    ensures { result ≡ allows_end r }
-{
-    let k = r.read;
-    let d = r.level;
-    if k == 0 {
-        if d == 0 {
-            return levels::is_clean(levels_in(r));
-        }
-    }
-    false
-}
-
-fn is_refusal(number: u32) -> bool
-    ensures { result ≡ Rattle.reader.specs.Feed.refusal_number number }
-{
-    if number == 0 {
-        return false;
-    }
-    number <= 6
-}
-
-// The state does not break the list of docs/STATES.md.
+/// The state does not break the list of docs/STATES.md.
+#[tactic(auto, unfolding(crate::specs::Feed::allows))]
 pub fn allows_state(r: Reader) -> bool
     ensures { result ≡ allows r }
 {
-    let form = r.form;
-    let n = r.size;
-    let k = r.read;
-    let phase = r.phase;
-    match phase {
-        Phase::Format => if allows_frame(r) {
-            allows_format(form, n - k, levels_in(r))
-        } else {
-            false
-        },
-        Phase::Length { code, left, value } => if allows_frame(r) {
-            allows_length(form, code, left, value, n - k, levels_in(r))
-        } else {
-            false
-        },
-        Phase::Content { code, left } => if allows_frame(r) {
-            allows_content(form, code, left, n - k, levels_in(r))
-        } else {
-            false
-        },
-        Phase::Refused(number) => if allows_end(r) {
-            is_refusal(number)
-        } else {
-            false
-        },
-    }
+    allows_at(r) && allows_phase(r)
 }
 
 // ---- a turn of the loops over a piece: one byte, or content bytes at once
 
-// How many of the bytes from a place on, at most m, come before one that is above a limit.
-fn low_bytes(piece: &[u8], from: usize, m: usize, limit: u8) -> usize
-    requires { from + m ≤ length piece.now }
-    ensures { (result ≤ m) × Low limit piece.now from result }
+// How many bytes stand before the first above a limit.
+fn low_bytes(run: &[u8], limit: u8) -> usize
+    ensures within { result ≤ length run.now }
+    ensures low { (j : ℕ) → j < result → slice_index run.now j ≤ limit }
 {
-    let mut q: usize = 0;
-    while q < m {
-        if limit < piece[from + q] {
-            return q;
-        }
-        q += 1;
-    }
-    q
+    run.iter().position(|b| limit < *b).unwrap_or(run.len())
 }
 
 // How many bytes of a content with so many left stand in a piece from a place on, before one above the limit.
@@ -451,12 +263,12 @@ fn content_run(form: Form, code: u32, left: usize, piece: &[u8], from: usize) ->
     requires { from ≤ length piece.now }
     ensures { (result ≤ left) × (from + result ≤ length piece.now) × Low (limit form code) piece.now from result }
 {
-    let m = wire::smaller(left, piece.len() - from);
+    let m = left.min(piece.len() - from);
     let most = item::limit_byte(form, code);
     if most == 0xFF {
         m
     } else {
-        low_bytes(piece, from, m, most)
+        low_bytes(&piece[from..from + m], most)
     }
 }
 
@@ -478,13 +290,12 @@ fn content_taken(r: Reader, code: u32, left: usize, piece: &[u8], from: usize) -
     requires from_in_bounds { from < length piece.now }
     ensures { Turned r piece.now from result.reader result.used }
 {
-    let form = r.form;
-    let m = content_run(form, code, left, piece, from);
+    let m = content_run(r.form, code, left, piece, from);
     if m == 0 {
         return byte_taken(r, piece, from);
     }
     Taken {
-        reader: content_from(form, r.size, r.read + m, levels_in(r), code, left - m),
+        reader: spot_behind(r, m).content_from(code, left - m),
         used: m,
     }
 }
@@ -494,221 +305,154 @@ fn turn(r: Reader, piece: &[u8], from: usize) -> Taken
     requires from_in_bounds { from < length piece.now }
     ensures { Turned r piece.now from result.reader result.used }
 {
-    let phase = r.phase;
-    match phase {
-        Phase::Format => byte_taken(r, piece, from),
-        Phase::Length {
-            code: _,
-            left: _,
-            value: _,
-        } => byte_taken(r, piece, from),
+    match r.phase {
         Phase::Content { code, left } => content_taken(r, code, left, piece, from),
-        Phase::Refused(_) => byte_taken(r, piece, from),
+        _ => byte_taken(r, piece, from),
     }
 }
 
 fn eat_all(r: Reader, piece: &[u8]) -> Fed
-    requires { (allows r ≡ true) × (status (state_of r) ≡ Answer.More) }
-    ensures { result ≡ eat (state_of r) 0 piece.now }
+    requires { On r }
+    ensures { fed_in result ≡ eat (state_of r) 0 piece.now }
 {
-    let mut state = r;
-    let mut i: usize = 0;
-    while i < piece.len() {
-        state = step_byte(state, piece[i]);
-        i += 1;
-        let answer = status_in(state);
-        match answer {
-            Answer::More => {}
-            Answer::Complete => {
-                return Fed {
-                    answer: Answer::Complete,
-                    consumed: i,
-                    reader: state,
-                };
-            }
-            Answer::Refusal(number) => {
-                return Fed {
-                    answer: Answer::Refusal(number),
-                    consumed: i,
-                    reader: state,
-                };
-            }
+    let mut reader = r;
+    for (i, &byte) in piece.iter().enumerate() {
+        reader = step_byte(reader, byte);
+        let answer = status_in(reader);
+        if answer != Ok(Progress::More) {
+            return Fed {
+                answer,
+                consumed: i + 1,
+                reader,
+            };
         }
     }
     Fed {
-        answer: Answer::More,
-        consumed: i,
-        reader: state,
+        answer: Ok(Progress::More),
+        consumed: piece.len(),
+        reader,
     }
 }
 
-// What a reader that is fed nothing more answers; 14 first.
-pub fn status_of(r: Reader) -> Answer
-    ensures { result ≡ status_of r }
+/// What a reader that is fed nothing more answers; BrokenState first.
+#[tactic(auto, unfolding(crate::specs::Feed::status_of))]
+pub fn status_of(r: Reader) -> Result<Progress, Refusal>
+    ensures { answer_in result ≡ status_of r }
 {
     if allows_state(r) {
         status_in(r)
     } else {
-        Answer::Refusal(14)
+        Err(Refusal::BrokenState)
     }
 }
 
-// A piece more, perhaps empty.
+// What a reader answers before it reads a piece; once complete it takes an empty one alone.
+fn opening(r: Reader, piece: &[u8]) -> Result<Progress, Refusal>
+    ensures { answer_in result ≡ opening_at (Rattle.reader.specs.Feed.status_of r) piece.now }
+{
+    let progress = status_of(r)?;
+    if progress == Progress::Complete && !piece.is_empty() {
+        return Err(Refusal::BehindComplete);
+    }
+    Ok(progress)
+}
+
+/// A piece more, perhaps empty.
 pub fn feed(r: Reader, piece: &[u8]) -> Fed
-    ensures { result ≡ fed_of r piece.now }
+    ensures { fed_in result ≡ fed_of r piece.now }
 {
-    if allows_state(r) {
-        let answer = status_in(r);
-        match answer {
-            Answer::More => eat_all(r, piece),
-            Answer::Complete => if piece.len() == 0 {
-                Fed {
-                    answer: Answer::Complete,
-                    consumed: 0,
-                    reader: r,
-                }
-            } else {
-                Fed {
-                    answer: Answer::Refusal(7),
-                    consumed: 0,
-                    reader: r,
-                }
-            },
-            Answer::Refusal(number) => Fed {
-                answer: Answer::Refusal(number),
-                consumed: 0,
-                reader: r,
-            },
-        }
-    } else {
-        Fed {
-            answer: Answer::Refusal(14),
-            consumed: 0,
-            reader: r,
-        }
+    let answer = opening(r, piece);
+    if answer == Ok(Progress::More) {
+        return eat_all(r, piece);
     }
-}
-
-// ---- the next item
-
-fn is_item(x: Found) -> bool
-    ensures { result ≡ is_item x }
-{
-    match x {
-        Found::Nothing => false,
-        Found::Item(_, _, _) => true,
-    }
-}
-
-// The item whose last length byte is the next byte.
-fn shown_by(r: Reader, b: u8) -> Found
-    requires { Ready r }
-    ensures { result ≡ shown (state_of r) b }
-{
-    let depth = r.level;
-    let phase = r.phase;
-    match phase {
-        Phase::Format => Found::Nothing,
-        Phase::Length { code, left, value } => if 1 < left {
-            Found::Nothing
-        } else {
-            Found::Item(depth, code, value * 256 + (b as usize))
-        },
-        Phase::Content { code: _, left: _ } => Found::Nothing,
-        Phase::Refused(_) => Found::Nothing,
-    }
-}
-
-fn seek_item(r: Reader, piece: &[u8]) -> Reached
-    requires { On r }
-    ensures { result ≡ seek (state_of r) 0 piece.now }
-{
-    let mut state = r;
-    let mut i: usize = 0;
-    while i < piece.len() {
-        let found = shown_by(state, piece[i]);
-        let t = turn(state, piece, i);
-        state = t.reader;
-        i += t.used;
-        let answer = status_in(state);
-        match answer {
-            Answer::More => if is_item(found) {
-                return Reached {
-                    found,
-                    answer: Answer::More,
-                    consumed: i,
-                    reader: state,
-                };
-            },
-            Answer::Complete => {
-                return Reached {
-                    found,
-                    answer: Answer::Complete,
-                    consumed: i,
-                    reader: state,
-                };
-            }
-            Answer::Refusal(number) => {
-                return Reached {
-                    found: Found::Nothing,
-                    answer: Answer::Refusal(number),
-                    consumed: i,
-                    reader: state,
-                };
-            }
-        }
-    }
-    Reached {
-        found: Found::Nothing,
-        answer: Answer::More,
-        consumed: i,
-        reader: state,
-    }
-}
-
-fn found_nothing(answer: Answer, r: Reader) -> Reached
-    ensures { result ≡ Rattle.reader.specs.Items.reached Found.Nothing answer 0 r }
-{
-    Reached {
-        found: Found::Nothing,
+    Fed {
         answer,
         consumed: 0,
         reader: r,
     }
 }
 
-// A piece more, through the last length byte of the next item; where none is met, all of it, as a feed.
-pub fn next_item(r: Reader, piece: &[u8]) -> Reached
-    ensures { result ≡ next_of r piece.now }
+// ---- the next item
+
+// The item whose last length byte is the next byte.
+#[tactic(auto, using(crate::proofs::Answered::shown_early, crate::proofs::Answered::shown_last, crate::proofs::Answered::shown_none))]
+fn shown_by(r: Reader, b: u8) -> Option<Item>
+    requires { Ready r }
+    ensures { found_in result ≡ shown (state_of r) b }
 {
-    if allows_state(r) {
-        let answer = status_in(r);
-        match answer {
-            Answer::More => seek_item(r, piece),
-            Answer::Complete => if piece.len() == 0 {
-                found_nothing(Answer::Complete, r)
-            } else {
-                found_nothing(Answer::Refusal(7), r)
-            },
-            Answer::Refusal(number) => found_nothing(Answer::Refusal(number), r),
-        }
-    } else {
-        found_nothing(Answer::Refusal(14), r)
+    match r.phase {
+        Phase::Length { code, left, value } => if 1 < left {
+            None
+        } else {
+            Some(Item {
+                depth: r.level,
+                code,
+                length: value * 256 + b as usize,
+            })
+        },
+        _ => None,
     }
 }
 
-// A reader that is told the form and N.
+fn seek_item(r: Reader, piece: &[u8]) -> Reached
+    requires { On r }
+    ensures { reached_in result ≡ seek (state_of r) 0 piece.now }
+{
+    let mut reader = r;
+    let mut i = 0;
+    // a turn takes one byte or a run of them, so a `for` over the piece is no plainer
+    while i < piece.len() {
+        let shown = shown_by(reader, piece[i]);
+        let t = turn(reader, piece, i);
+        reader = t.reader;
+        i += t.used;
+        let answer = status_in(reader);
+        if shown.is_some() || answer != Ok(Progress::More) {
+            // a byte that is refused shows no item
+            return Reached {
+                found: answer.ok().and(shown),
+                answer,
+                consumed: i,
+                reader,
+            };
+        }
+    }
+    Reached {
+        found: None,
+        answer: Ok(Progress::More),
+        consumed: i,
+        reader,
+    }
+}
+
+/// A piece more, through the last length byte of the next item; where none is met, all of it, as a feed.
+pub fn next_item(r: Reader, piece: &[u8]) -> Reached
+    ensures { reached_in result ≡ next_of r piece.now }
+{
+    let answer = opening(r, piece);
+    if answer == Ok(Progress::More) {
+        return seek_item(r, piece);
+    }
+    Reached {
+        found: None,
+        answer,
+        consumed: 0,
+        reader: r,
+    }
+}
+
+/// A reader that is told the form and N.
 pub fn fresh_reader(form: Form, n: usize) -> Reader
     ensures { result ≡ reader_of (fresh form n) }
 {
     if n == 0 {
-        return reader_in(form, n, 0, levels::none(), Phase::Format);
+        return reader_in(form, n, 0, Levels::none(), Phase::Format);
     }
     if n == 1 {
-        return refusal(form, n, 5);
+        return refused(form, n, Refusal::NoSuchText);
     }
     if LONGEST < n {
-        return refusal(form, n, 5);
+        return refused(form, n, Refusal::NoSuchText);
     }
-    reader_in(form, n, 0, levels::opened(levels::none(), 1), Phase::Format)
+    reader_in(form, n, 0, Levels::none().opened(1), Phase::Format)
 }

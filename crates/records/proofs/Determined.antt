@@ -1,26 +1,14 @@
 -- Two outcomes that a promise permits for the same call are equal: each is the one that the definition gives.
 use mathlib.Core.Path.{◌≡◌, sym, ◌∙◌}
-use Rattle.records.proofs.byte_at.Reads as byte_at_reads
-use Rattle.records.proofs.half_at.Reads as half_at_reads
-use Rattle.records.proofs.word_at.Reads as word_at_reads
-use Rattle.records.proofs.double_at.Reads as double_at_reads
+use Rattle.records.proofs.field_at.Reads as field_at_reads
 use Rattle.records.proofs.ten_in.Reads as ten_in_reads
 use Rattle.records.proofs.words_in.Reads as words_in_reads
 use Rattle.records.proofs.line_end.Reads as line_end_reads
 use Rattle.records.proofs.room.Reads as room_reads
 use Rattle.records.proofs.blank.Reads as blank_reads
 
-byte_at_one : (κs : _) (a : _) (r r' : _) (s s' : _) → byte_at_reads.Post κs a r s → byte_at_reads.Post κs a r' s' → r ≡ r'
-byte_at_one κs a r r' s s' p q = p ∙ sym q
-
-half_at_one : (κs : _) (a : _) (r r' : _) (s s' : _) → half_at_reads.Post κs a r s → half_at_reads.Post κs a r' s' → r ≡ r'
-half_at_one κs a r r' s s' p q = p ∙ sym q
-
-word_at_one : (κs : _) (a : _) (r r' : _) (s s' : _) → word_at_reads.Post κs a r s → word_at_reads.Post κs a r' s' → r ≡ r'
-word_at_one κs a r r' s s' p q = p ∙ sym q
-
-double_at_one : (κs : _) (a : _) (r r' : _) (s s' : _) → double_at_reads.Post κs a r s → double_at_reads.Post κs a r' s' → r ≡ r'
-double_at_one κs a r r' s s' p q = p ∙ sym q
+field_at_one : (g : _) (t : _) (κs : _) (a : _) (r r' : _) (s s' : _) → field_at_reads.Post g t κs a r s → field_at_reads.Post g t κs a r' s' → r ≡ r'
+field_at_one g t κs a r r' s s' p q = p.0 ∙ sym q.0
 
 ten_in_one : (κs : _) (a : _) (r r' : _) (s s' : _) → ten_in_reads.Post κs a r s → ten_in_reads.Post κs a r' s' → r ≡ r'
 ten_in_one κs a r r' s s' p q = p ∙ sym q

@@ -1,13 +1,14 @@
 -- A table's rows are read three numbers at a time, and the lean text of rows is as long as their sizes say where their contents are there.
-use Prim.Native.Nat.{ℕ, suc, ◌+◌, ◌*◌, ◌-◌, ◌<◌, ◌≤◌}
-use mathlib.Core.Path.{◌≡◌, refl, ap, ap₂, ◌∙◌}
+use Prim.Native.Nat.{ℕ, zero, suc, ◌+◌, ◌*◌, ◌-◌, ◌<◌, ◌≤◌}
+use mathlib.Core.Path.{◌≡◌, refl, sym, ap, ap₂, ◌∙◌}
 use mathlib.Core.Bool.{Bool, true, false, cond}
-use mathlib.Core.List.{List, [], ◌∷◌, ◌++◌, append-nil}
+use mathlib.Core.List.{List, [], ◌∷◌, ◌++◌, map, append-nil}
 use native.Mathlib.Omega.{arith}
 use borrow.Author.Tests.{eq-eqb, ne_eqb, eqb-true, eqb-false}
 use lib.Dec.{eqb}
 use lib.ListN.{length, get_or, take, drop, length-append, length-take, length-drop}
 use lib.Seq.{drop-cons}
+use Rattle.std.specs.Simd.{first_chunks}
 use Rattle.wire.proofs.Numbers.{length_bytes}
 use Rattle.item.specs.Code.{L}
 use Rattle.item.specs.Item.{fewest, told, lean_header}
@@ -15,7 +16,7 @@ use Rattle.item.proofs.Fewest.{counted}
 use Rattle.item.proofs.Lean.{told_length}
 use Rattle.rows.specs.declared.Row.{Row}
 use Rattle.wire.specs.Lists.{Each}
-use Rattle.rows.specs.Row.{row, rows_of, table_of, part_at, content_size, row_text, text_of, row_size, size_of}
+use Rattle.rows.specs.Row.{row, row_of, rows_of, table_of, part_at, content_size, row_text, text_of, row_size, size_of}
 use Rattle.rows.specs.Asked.{Fits}
 
 -- the row that a table's number i begins
@@ -35,7 +36,7 @@ rows_more table i r e h =
     ∙ ap (λ (t : List ℕ). get_or table i 0 ∷ t)
     (drop-cons table (suc i) 0 (omega arith) ∙ ap (λ (t : List ℕ). get_or table (suc i) 0 ∷ t) (drop-cons table (suc (suc i)) 0 (omega arith)))))
 
-rows_few : (t : List ℕ) → length t < 3 → rows_of t ≡ []
+pub rows_few : (t : List ℕ) → length t < 3 → rows_of t ≡ []
 unfolding rows_of
 rows_few [] h = refl
 rows_few (c ∷ []) h = refl
@@ -44,6 +45,15 @@ rows_few (c ∷ n ∷ p ∷ t) h = absurd (omega arith)
 
 pub rows_end : (table : List ℕ) (i : ℕ) → length table < i + 3 → rows_of (drop i table) ≡ []
 rows_end table i h = rows_few (drop i table) (omega (arith, length-drop i table))
+
+-- a table's rows, three numbers each
+pub rows_chunks : (k : ℕ) (t : List ℕ) → k * 3 ≤ length t → length t < k * 3 + 3 → map row_of (first_chunks 3 k t) ≡ rows_of t
+unfolding rows_of
+rows_chunks zero t h g = sym (rows_few t g)
+rows_chunks (suc k) [] h g = absurd (omega arith)
+rows_chunks (suc k) (c ∷ []) h g = absurd (omega arith)
+rows_chunks (suc k) (c ∷ n ∷ []) h g = absurd (omega arith)
+rows_chunks (suc k) (c ∷ n ∷ p ∷ t) h g = ap (λ (rs : List Row). row c n p ∷ rs) (rows_chunks k t (omega arith) (omega arith))
 
 -- rows that are put into a table are read back from it
 pub table_length : (rs : List Row) → length (table_of rs) ≡ 3 * length rs
@@ -57,6 +67,17 @@ rows_table [] = refl
 rows_table (r ∷ rs) = ap (λ (qs : List Row). row r.code r.length r.place ∷ qs) (rows_table rs)
 
 -- ---- a row's lean text
+
+pub fewest_few : (n : ℕ) → fewest n ≤ 4
+fewest_few n = (counted n).four
+
+pub content_few : (c n : ℕ) → content_size c n ≤ n
+unfolding content_size
+content_few c n = go (eqb c L)
+  where
+    go : (b : Bool) → cond b 0 n ≤ n
+    go true = omega arith
+    go false = omega arith
 
 pub header_length : (c n : ℕ) → length (lean_header c n) ≡ 1 + fewest n
 header_length c n = omega (arith, length_bytes (fewest n) n)
@@ -104,12 +125,8 @@ module _ (s : List ℕ) (r : Row) where
 
 -- and at most 5 bytes longer than its content
 pub row_size_most : (c n : ℕ) → row_size c n ≤ 5 + n
-unfolding row_size content_size
-row_size_most c n = go (eqb c L)
-  where
-    go : (b : Bool) → 1 + fewest n + cond b 0 n ≤ 5 + n
-    go true = omega (arith, (counted n).four)
-    go false = omega (arith, (counted n).four)
+unfolding row_size
+row_size_most c n = omega (arith, fewest_few n, content_few c n)
 
 -- rows that fit have a lean text as long as their sizes say
 pub text_length : (s : List ℕ) (rs : List Row) → Each (Fits s) rs → length (text_of s rs) ≡ size_of rs

@@ -1,11 +1,15 @@
 -- A row: three numbers of a table, the content that it names, and the lean text that it stands for.
-use Rattle.std.specs.Prelude.{ℕ, ◌+◌, Bool, cond, List, [], ◌∷◌, ◌++◌, eqb, leb, length, take, drop}
+use Rattle.std.specs.Prelude.{ℕ, ◌+◌, Bool, cond, List, [], ◌∷◌, ◌++◌, eqb, leb, length, get_or, take, drop}
 use Rattle.item.specs.Code.{L}
 use Rattle.item.specs.Item.{fewest, told, lean_header}
 use Rattle.rows.specs.declared.Row.{Row}
 
 abbrev pub row : ℕ → ℕ → ℕ → Row
 row c n p = record { code = c; length = n; place = p }
+
+-- the row that three numbers are
+abbrev pub row_of : List ℕ → Row
+row_of numbers = row (get_or numbers 0 0) (get_or numbers 1 0) (get_or numbers 2 0)
 
 -- the rows of a table, three numbers a row, and the table of rows
 unfoldable pub rows_of : List ℕ → List Row

@@ -17,7 +17,7 @@ use Rattle.state.proofs.Phases.{selected_connected}
 use Rattle.allowed.specs.States.{allows}
 use Rattle.session.specs.Gates.{and_then, when_connected, when_selected, when_good, when_stream, when_primary, wish_gate, event_gate, gate_of}
 use Rattle.session.specs.Table.{told, event_of, step_of}
-use Rattle.session.specs.declared.Stepped.{Stepped}
+use Rattle.session.specs.Stepped.{Stepped}
 use Rattle.session.specs.declared.Wish.{Wish}
 use Rattle.session.specs.declared.Wish.TheVariants.{Connect, Disconnect, Flag, Primary, Reply, Abort, Linktest, Separate}
 use Rattle.session.specs.declared.Event.{Event}

@@ -14,12 +14,12 @@ use Rattle.state.specs.State.{fresh, connected, selected, received_open}
 use Rattle.state.specs.declared.Session.{Session}
 use Rattle.allowed.specs.States.{allows}
 use Rattle.link.specs.Rows as link
-use Rattle.link.specs.declared.Linked.{Linked}
+use Rattle.link.specs.Linked.{Linked}
 use Rattle.device.specs.Rows as device
-use Rattle.device.specs.declared.Acted.{Acted}
+use Rattle.device.specs.Acted.{Acted}
 use Rattle.session.specs.Gates.{gate_of}
 use Rattle.session.specs.Table.{told, by_link, by_device, rejected_of, data_of, came_of, wish_of, timer_of, event_of, step_of}
-use Rattle.session.specs.declared.Stepped.{Stepped}
+use Rattle.session.specs.Stepped.{Stepped}
 use Rattle.session.specs.declared.Timer.{Timer}
 use Rattle.session.specs.declared.Timer.TheVariants.{T3, T6, T7, T8}
 use Rattle.session.specs.declared.Wish.{Wish}

@@ -1,2 +1,3 @@
+pub mod Stepped
 pub mod Gates
 pub mod Table

@@ -7,18 +7,17 @@ use Rattle.slots.specs.declared.Query.TheVariants.{Named}
 use Rattle.message.specs.declared.Received.{Received}
 use Rattle.message.specs.declared.Received.TheVariants.{Reject, OtherPType, OtherSType, SelectReq, SelectRsp, DeselectReq, DeselectRsp, LinktestReq}
 use Rattle.message.specs.declared.Received.TheVariants.{LinktestRsp, SeparateReq, Data}
-use Rattle.message.specs.declared.Send.{Send}
-use Rattle.message.specs.declared.Send.TheVariants.{Nothing}
+use Rattle.message.specs.Send.{Send, Nothing}
 use Rattle.state.specs.State.{fresh, selected, numbered, emptied, received_open}
 use Rattle.state.specs.declared.Link.{Link}
 use Rattle.state.specs.declared.Device.{Device}
 use Rattle.state.specs.declared.Session.{Session}
 use Rattle.link.specs.Rows as link
-use Rattle.link.specs.declared.Linked.{Linked}
+use Rattle.link.specs.Linked.{Linked}
 use Rattle.device.specs.Rows as device
-use Rattle.device.specs.declared.Acted.{Acted}
+use Rattle.device.specs.Acted.{Acted}
 use Rattle.session.specs.Gates.{gate_of}
-use Rattle.session.specs.declared.Stepped.{Stepped}
+use Rattle.session.specs.Stepped.{Stepped}
 use Rattle.session.specs.declared.Timer.{Timer}
 use Rattle.session.specs.declared.Timer.TheVariants.{T3, T6, T7, T8}
 use Rattle.session.specs.declared.Wish.{Wish}

@@ -1,169 +1,109 @@
+// Events and states of a session, as lines on standard input say (docs/CALLS.md).
 #![tactic(auto)]
 
-use hexes::Said;
-use session::{Counted, Device, Event, Link, Phase, Send, Session, Timer, Wish};
+ghost use Rattle.std.specs.Prelude.{◌≤◌, length};
+
+use driver::{Program, Stdout};
+use frame::Header;
+use message::Message;
+use session::{Event, Phase, Received, Session, Timer, Wish};
 use slots::{Linktest, Slot};
-
-// standard input, as a file descriptor
-const STDIN: i32 = 0;
-
-// standard output
-const STDOUT: i32 = 1;
-
-// ---- fields out
-
-fn put(s: &[u8]) {
-    io::write_all(STDOUT, s);
-}
-
-fn decimal(n: usize) {
-    put(b"\t");
-    io::print_decimal(STDOUT, n as u64);
-}
-
-fn digits(s: &[u8]) {
-    let mut out = records::room();
-    put(b"\t");
-    match hexes::hex_of(s, &mut out) {
-        Counted::Is(n) => if n <= out.len() {
-            put(&out[0..n]);
-        },
-        Counted::Refused(number) => decimal(number as usize),
-    }
-}
+use std::fmt;
+use std::fmt::Write;
 
 // ---- a state and a message
 
-fn phase_field(p: Phase) {
-    match p {
-        Phase::NotConnected => put(b"\tnot connected"),
-        Phase::NotSelected => put(b"\tnot selected"),
-        Phase::Selected => put(b"\tselected"),
-    }
+// The slots of a table that are taken, each behind a word.
+#[derive(Clone, Copy)]
+struct Slots<'a> {
+    word: &'a str,
+    slots: &'a [Slot; 32],
 }
 
-fn slot_fields(word: &[u8], place: usize, x: Slot) {
-    if x.taken {
-        put(word);
-        decimal(place);
-        decimal(x.system as usize);
-        decimal(x.stream as usize);
-        decimal(x.function as usize);
-    }
-}
-
-fn table_fields(word: &[u8], l: [Slot; 32]) {
-    let mut i: usize = 0;
-    while i < 32 {
-        slot_fields(word, i, l[i]);
-        i += 1;
-    }
-}
-
-fn flag_fields(flags: [bool; 128]) {
-    put(b"\tflags");
-    let mut i: usize = 0;
-    while i < 128 {
-        if flags[i] {
-            decimal(i);
-        }
-        i += 1;
-    }
-}
-
-fn state_fields(s: Session) {
-    let link = s.link;
-    let test = link.linktest;
-    let phase = link.phase;
-    let d = s.device;
-    let received = d.received;
-    let own = d.own;
-    let flags = d.flags;
-    phase_field(phase);
-    decimal(link.next as usize);
-    if test.running {
-        put(b"\tlinktest");
-        decimal(test.system as usize);
-    }
-    table_fields(b"\treceived", received);
-    table_fields(b"\town", own);
-    flag_fields(flags);
-}
-
-fn sent_fields(m: Send, text: &[u8]) {
-    let mut out = [0u8; 32768];
-    match session::write_message(m, text, &mut out) {
-        Counted::Is(n) => if 0 < n {
-            if n <= out.len() {
-                put(b"\tsent");
-                digits(&out[0..n]);
+impl fmt::Display for Slots<'_> {
+    fn fmt<W: fmt::Write>(&self, f: &mut fmt::Formatter<W>) -> fmt::Result {
+        for (place, x) in self.slots.iter().enumerate() {
+            if x.taken {
+                write!(
+                    f,
+                    "\t{}\t{place}\t{}\t{}\t{}",
+                    self.word, x.system, x.stream, x.function
+                )?;
             }
-        },
-        Counted::Refused(number) => {
-            put(b"\trefused");
-            decimal(number as usize);
         }
+        Ok(())
     }
 }
 
-// ---- a record: the session before it, and the session behind it
+// The streams whose flags are set.
+#[derive(Clone, Copy)]
+struct Flags<'a>(&'a [bool; 128]);
 
-fn bad(s: Session) -> Session {
-    put(b"bad record\n");
-    s
-}
-
-fn event(s: Session, e: Event, text: &[u8]) -> Session {
-    let a = session::step(s, e, text);
-    let next = a.session;
-    let m = a.send;
-    put(b"event");
-    decimal(a.number as usize);
-    state_fields(next);
-    sent_fields(m, text);
-    put(b"\n");
-    next
-}
-
-// device ID (2)
-fn make(s: Session, b: &[u8]) -> Session {
-    if b.len() < 2 {
-        return bad(s);
+impl fmt::Display for Flags<'_> {
+    fn fmt<W: fmt::Write>(&self, f: &mut fmt::Formatter<W>) -> fmt::Result {
+        f.write_str("\tflags")?;
+        for (stream, flag) in self.0.iter().enumerate() {
+            if *flag {
+                write!(f, "\t{stream}")?;
+            }
+        }
+        Ok(())
     }
-    let made = session::new_session(records::half_at(b, 0));
-    let next = made.session;
-    put(b"made");
-    decimal(made.number as usize);
-    state_fields(next);
-    put(b"\n");
-    next
 }
 
-// header (10), text
-fn receive(s: Session, b: &[u8]) -> Session {
-    if b.len() < 10 {
-        return bad(s);
+#[derive(Clone, Copy)]
+struct State<'a>(&'a Session);
+
+impl fmt::Display for State<'_> {
+    fn fmt<W: fmt::Write>(&self, f: &mut fmt::Formatter<W>) -> fmt::Result {
+        let link = self.0.link;
+        let device = &self.0.device;
+        let phase = match link.phase {
+            Phase::NotConnected => "not connected",
+            Phase::NotSelected => "not selected",
+            Phase::Selected => "selected",
+        };
+        write!(f, "\t{phase}\t{}", link.next)?;
+        if link.linktest.running {
+            write!(f, "\tlinktest\t{}", link.linktest.system)?;
+        }
+        let received = Slots {
+            word: "received",
+            slots: &device.received,
+        };
+        let own = Slots {
+            word: "own",
+            slots: &device.own,
+        };
+        write!(f, "{received}{own}{}", Flags(&device.flags))
     }
-    event(
-        s,
-        Event::Received(session::received_of(frame::header_of(records::ten_in(b)))),
-        &b[10..],
-    )
 }
+
+fn sent_fields(stdout: &mut Stdout, send: Option<Message>, text: &[u8]) -> fmt::Result {
+    let mut out = [0u8; 32768];
+    match session::write_message(send, text, &mut out) {
+        Ok(n) if 0 < n && n <= out.len() => {
+            stdout.write_str("\tsent")?;
+            driver::digits(stdout, &out[..n])
+        }
+        Ok(_) => Ok(()),
+        Err(refusal) => write!(stdout, "\trefused\t{}", u32::from(refusal)),
+    }
+}
+
+// ---- events
 
 // wish (1), W (1), stream (1), function (1), flag (1), system bytes (4)
-fn wish_in(b: &[u8]) -> Wish {
-    let kind = records::byte_at(b, 0);
-    let w = records::byte_at(b, 1) == 1;
-    let stream = records::byte_at(b, 2);
-    let function = records::byte_at(b, 3);
-    let flag = records::byte_at(b, 4) == 1;
-    let system = records::word_at(b, 5);
-    match kind {
+fn wish_in(b: &[u8]) -> Wish
+    requires { 9 ≤ length b.now }
+{
+    let stream = b[2];
+    let system = records::field_at::<4>(b, 5) as u32;
+    match b[0] {
         0 => Wish::Connect,
         1 => Wish::Disconnect,
-        2 => Wish::Flag(stream, flag),
-        3 => Wish::Primary(w, stream, function),
+        2 => Wish::Flag(stream, b[4] == 1),
+        3 => Wish::Primary(b[1] == 1, stream, b[3]),
         4 => Wish::Reply(system),
         5 => Wish::Abort(system),
         6 => Wish::Linktest,
@@ -171,190 +111,180 @@ fn wish_in(b: &[u8]) -> Wish {
     }
 }
 
-fn wish(s: Session, b: &[u8]) -> Session {
-    if b.len() < 9 {
-        return bad(s);
-    }
-    event(s, Event::Wish(wish_in(b)), &b[9..])
-}
-
 // timer (1), system bytes (4)
-fn timer_in(b: &[u8]) -> Timer {
-    let kind = records::byte_at(b, 0);
-    let system = records::word_at(b, 1);
-    match kind {
-        3 => Timer::T3(system),
+fn timer_in(b: &[u8]) -> Timer
+    requires { 5 ≤ length b.now }
+{
+    match b[0] {
+        3 => Timer::T3(records::field_at::<4>(b, 1) as u32),
         6 => Timer::T6,
         7 => Timer::T7,
         _ => Timer::T8,
     }
 }
 
-fn timer(s: Session, b: &[u8]) -> Session {
-    if b.len() < 5 {
-        return bad(s);
-    }
-    event(s, Event::Timer(timer_in(b)), b"")
-}
-
-// ---- a state changed by hand
-
-fn changed(s: Session) -> Session {
-    put(b"state");
-    if allowed::allows_state(s) {
-        put(b"\tallowed");
-    } else {
-        put(b"\tbroken");
-    }
-    state_fields(s);
-    put(b"\n");
-    s
-}
-
-fn with_link(s: Session, link: Link) -> Session {
-    let device = s.device;
-    Session { link, device }
-}
-
-fn with_device(s: Session, device: Device) -> Session {
-    let link = s.link;
-    Session { link, device }
-}
-
-// number (4)
-fn number(s: Session, b: &[u8]) -> Session {
-    if b.len() < 4 {
-        return bad(s);
-    }
-    let link = s.link;
-    changed(with_link(s, state::with_next(link, records::word_at(b, 0))))
-}
-
-// phase (1)
-fn phase(s: Session, b: &[u8]) -> Session {
-    if b.len() < 1 {
-        return bad(s);
-    }
-    let p = match records::byte_at(b, 0) {
-        0 => Phase::NotConnected,
-        1 => Phase::NotSelected,
-        _ => Phase::Selected,
-    };
-    let link = s.link;
-    changed(with_link(s, state::with_phase(link, p)))
-}
-
-// running (1), system bytes (4)
-fn linktest(s: Session, b: &[u8]) -> Session {
-    if b.len() < 5 {
-        return bad(s);
-    }
-    let test = Linktest {
-        running: records::byte_at(b, 0) == 1,
-        system: records::word_at(b, 1),
-    };
-    let link = s.link;
-    changed(with_link(s, state::with_test(link, test)))
-}
-
-// taken (1), system bytes (4), stream (1), function (1), behind which (1) and place (1)
-fn slot_in(b: &[u8]) -> Slot {
+// taken (1), system bytes (4), stream (1), function (1)
+fn slot_in(b: &[u8]) -> Slot
+    requires { 7 ≤ length b.now }
+{
     Slot {
-        taken: records::byte_at(b, 2) == 1,
-        system: records::word_at(b, 3),
-        stream: records::byte_at(b, 7),
-        function: records::byte_at(b, 8),
+        taken: b[0] == 1,
+        system: records::field_at::<4>(b, 1) as u32,
+        stream: b[5],
+        function: b[6],
     }
 }
 
-fn slot(s: Session, b: &[u8]) -> Session {
-    if b.len() < 9 {
-        return bad(s);
-    }
-    let place = records::byte_at(b, 1) as usize;
-    let x = slot_in(b);
-    let d = s.device;
-    let received = d.received;
-    let own = d.own;
-    if records::byte_at(b, 0) == 0 {
-        changed(with_device(
-            s,
-            state::with_received(d, slots::with_slot(received, place, x)),
-        ))
-    } else {
-        changed(with_device(s, state::with_own(d, slots::with_slot(own, place, x))))
-    }
+// ---- what is kept
+
+#[derive(Drop)]
+struct Sessions {
+    session: Session,
 }
 
-// stream (1), flag (1)
-fn flag(s: Session, b: &[u8]) -> Session {
-    if b.len() < 2 {
-        return bad(s);
+impl Sessions {
+    fn event(&mut self, stdout: &mut Stdout, e: Event, text: &[u8]) -> fmt::Result {
+        let stepped = session::step(self.session, e, text);
+        self.session = stepped.session;
+        let number = match stepped.answer {
+            Ok(notice) => u32::from(notice),
+            Err(refusal) => u32::from(refusal),
+        };
+        write!(stdout, "event\t{number}{}", State(&self.session))?;
+        sent_fields(stdout, stepped.send, text)?;
+        stdout.write_str("\n")
     }
-    let d = s.device;
-    let flag = records::byte_at(b, 1) == 1;
-    changed(with_device(s, state::with_flag(d, records::byte_at(b, 0), flag)))
-}
 
-fn record(s: Session, letter: u8, b: &[u8]) -> Session {
-    match letter {
-        b'm' => make(s, b),
-        b'r' => receive(s, b),
-        b'w' => wish(s, b),
-        b't' => timer(s, b),
-        b'n' => number(s, b),
-        b'p' => phase(s, b),
-        b'l' => linktest(s, b),
-        b'x' => slot(s, b),
-        b'g' => flag(s, b),
-        _ => bad(s),
-    }
-}
-
-// ---- lines
-
-fn line(s: Session, l: &[u8]) -> Session {
-    if l.len() == 0 {
-        return s;
-    }
-    let letter = l[0];
-    if letter == b'#' {
-        put(l);
-        put(b"\n");
-        return s;
-    }
-    let mut said = records::room();
-    match hexes::bytes_in(&l[1..], &mut said) {
-        Said::Bytes(n) => if n <= said.len() {
-            record(s, letter, &said[0..n])
-        } else {
-            bad(s)
-        },
-        Said::Wrong => bad(s),
-        Said::Long => bad(s),
-    }
-}
-
-fn lines(input: &[u8]) {
-    let made = session::new_session(0);
-    let mut s = made.session;
-    let mut at: usize = 0;
-    while at < input.len() {
-        let end = records::line_end(input, at);
-        s = line(s, &input[at..end]);
-        if end == input.len() {
-            break;
+    // device ID (2)
+    fn make(&mut self, stdout: &mut Stdout, b: &[u8]) -> fmt::Result {
+        if b.len() < 2 {
+            return driver::bad(stdout);
         }
-        at = end + 1;
+        let made = session::new_session(records::field_at::<2>(b, 0) as u16);
+        self.session = made.session;
+        writeln!(
+            stdout,
+            "made\t{}{}",
+            driver::number(made.answer),
+            State(&self.session)
+        )
+    }
+
+    // header (10), text
+    fn receive(&mut self, stdout: &mut Stdout, b: &[u8]) -> fmt::Result {
+        if b.len() < 10 {
+            return driver::bad(stdout);
+        }
+        let header = Header::from(records::ten_in(b));
+        self.event(stdout, Event::Received(Received::from(header)), &b[10..])
+    }
+
+    // a wish (9), text
+    fn wish(&mut self, stdout: &mut Stdout, b: &[u8]) -> fmt::Result {
+        if b.len() < 9 {
+            return driver::bad(stdout);
+        }
+        self.event(stdout, Event::Wish(wish_in(b)), &b[9..])
+    }
+
+    fn timer(&mut self, stdout: &mut Stdout, b: &[u8]) -> fmt::Result {
+        if b.len() < 5 {
+            return driver::bad(stdout);
+        }
+        self.event(stdout, Event::Timer(timer_in(b)), b"")
+    }
+
+    // The state was changed by hand.
+    fn changed(&self, stdout: &mut Stdout) -> fmt::Result {
+        let word = if allowed::allows_state(self.session) {
+            "allowed"
+        } else {
+            "broken"
+        };
+        writeln!(stdout, "state\t{word}{}", State(&self.session))
+    }
+
+    // number (4)
+    fn number(&mut self, stdout: &mut Stdout, b: &[u8]) -> fmt::Result {
+        if b.len() < 4 {
+            return driver::bad(stdout);
+        }
+        self.session.link = self
+            .session
+            .link
+            .with_next(records::field_at::<4>(b, 0) as u32);
+        self.changed(stdout)
+    }
+
+    // phase (1)
+    fn phase(&mut self, stdout: &mut Stdout, b: &[u8]) -> fmt::Result {
+        let phase = match b {
+            [] => return driver::bad(stdout),
+            [0, ..] => Phase::NotConnected,
+            [1, ..] => Phase::NotSelected,
+            _ => Phase::Selected,
+        };
+        self.session.link = self.session.link.with_phase(phase);
+        self.changed(stdout)
+    }
+
+    // running (1), system bytes (4)
+    fn linktest(&mut self, stdout: &mut Stdout, b: &[u8]) -> fmt::Result {
+        if b.len() < 5 {
+            return driver::bad(stdout);
+        }
+        let test = Linktest {
+            running: b[0] == 1,
+            system: records::field_at::<4>(b, 1) as u32,
+        };
+        self.session.link = self.session.link.with_test(test);
+        self.changed(stdout)
+    }
+
+    // which (1), place (1), a slot (7)
+    fn slot(&mut self, stdout: &mut Stdout, b: &[u8]) -> fmt::Result {
+        if b.len() < 9 {
+            return driver::bad(stdout);
+        }
+        let place = b[1] as usize;
+        let slot = slot_in(&b[2..]);
+        let device = self.session.device;
+        self.session.device = if b[0] == 0 {
+            device.with_received(slots::with_slot(device.received, place, slot))
+        } else {
+            device.with_own(slots::with_slot(device.own, place, slot))
+        };
+        self.changed(stdout)
+    }
+
+    // stream (1), flag (1)
+    fn flag(&mut self, stdout: &mut Stdout, b: &[u8]) -> fmt::Result {
+        if b.len() < 2 {
+            return driver::bad(stdout);
+        }
+        self.session.device = self.session.device.with_flag(b[0], b[1] == 1);
+        self.changed(stdout)
     }
 }
 
-fn main() {
-    let mut input = records::room();
-    let n = io::read_full(STDIN, &mut input);
-    if n == 1048576 {
-        put(b"too much input\n");
-    } else {
-        lines(&input[0..n]);
+impl Program for Sessions {
+    fn record(&mut self, stdout: &mut Stdout, letter: u8, bytes: &mut [u8]) -> fmt::Result {
+        match letter {
+            b'm' => self.make(stdout, bytes),
+            b'r' => self.receive(stdout, bytes),
+            b'w' => self.wish(stdout, bytes),
+            b't' => self.timer(stdout, bytes),
+            b'n' => self.number(stdout, bytes),
+            b'p' => self.phase(stdout, bytes),
+            b'l' => self.linktest(stdout, bytes),
+            b'x' => self.slot(stdout, bytes),
+            b'g' => self.flag(stdout, bytes),
+            _ => driver::bad(stdout),
+        }
     }
+}
+
+fn main() -> fmt::Result {
+    let session = session::new_session(0).session;
+    driver::run(&mut Sessions { session })
 }

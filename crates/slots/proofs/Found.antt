@@ -1,35 +1,49 @@
 -- Laws of the search among slots, beside those of any search: a slot that is free, taken or named, and slots of which none is taken.
 use Prim.Native.Nat.{ℕ, ◌≤◌, ◌<◌}
 use mathlib.Core.List.{List}
-use mathlib.Core.Bool.{true, false, not}
-use mathlib.Core.Path.{◌≡◌, refl, ap}
+use mathlib.Core.Bool.{Bool, true, false, cond}
+use Rattle.std.specs.Prelude.{Some, None}
+use Rattle.std.specs.List.{position_or_len}
+use Rattle.std.proofs.lemmas.List.Recursion.{is_position_or_len}
+use native.Mathlib.Numerals.{one-add}
+use mathlib.Core.Path.{◌≡◌, refl, ap, sym}
 use native.Mathlib.Decide.{dec_lt}
 use native.Mathlib.Omega.{arith}
-use borrow.Author.Tests.{not-true, eq-eqb, eqb-true, ne_eqb, lt-ltb, le-ltb, lt-leb, le-leb, ltb-false}
-use lib.Dec.{eqb, ltb, leb}
+use borrow.Author.Tests.{not-true, eq-eqb, eqb-true, ne_eqb, lt-ltb, le-ltb, ltb-false, ltb-true}
+use lib.Dec.{eqb, ltb}
 use lib.ListN.{length, get_or}
 use Rattle.wire.specs.Search.{first_at}
 use Rattle.wire.proofs.Choice.{both}
 use Rattle.wire.proofs.Search.{first_most, first_passes, first_least}
-use Rattle.slots.specs.Slots.{free, slot_of, no_slots, passes, found_at, is_there}
+use Rattle.slots.specs.Slots.{free, slot_of, no_slots, passes, found_at, place_of, is_there}
 use Rattle.slots.specs.declared.Slot.{Slot}
 use Rattle.slots.specs.declared.Query.{Query}
 use Rattle.slots.specs.declared.Query.TheVariants.{Free, Taken, Named}
 
+-- ---- the library's search
+
+position_first : {A : Type 0} (test : A → Bool) (l : List A) → first_at test l ≡ position_or_len test l
+unfolding first_at
+position_first test l = is_position_or_len (first_at test) test refl (λ x k. ap (cond (test x) 0) (sym (one-add (first_at test k)))) l
+
+pub position_found : (q : Query) (l : List Slot) → length l ≡ 32
+    → cond (ltb (position_or_len (passes q) l) (length l)) (Some (position_or_len (passes q) l)) None ≡ place_of (found_at q l)
+position_found q l size = rw (position_first (passes q) l, size)
+
 -- ---- a search that found a slot, or none
+
+pub within : (n at : ℕ) → Some at ≡ place_of n → at < 32
+within n at = go (ltb n 32) refl
+  where
+    go : (b : Bool) → ltb n 32 ≡ b → Some at ≡ cond b (Some n) None → at < 32
+    go true t e = let same : at ≡ n = cc in omega (arith, ltb-true n 32 t)
+    go false t e = absurd cc
 
 pub there : (q : Query) (l : List Slot) (at : ℕ) → at ≡ found_at q l → at < 32 → is_there q l ≡ true
 there q l at e h = rw (← e) (lt-ltb at 32 h)
 
 pub absent : (q : Query) (l : List Slot) (at : ℕ) → at ≡ found_at q l → 32 ≤ at → is_there q l ≡ false
 absent q l at e h = rw (← e) (le-ltb at 32 h)
-
-pub none_found : (q : Query) (l : List Slot) (at : ℕ) → at ≡ found_at q l → leb 32 at ≡ not (is_there q l)
-none_found q l at e = rw (← e) (go (dec_lt at 32))
-  where
-    go : Dec (at < 32) → leb 32 at ≡ not (ltb at 32)
-    go (yes h) = rw (lt-ltb at 32 h, lt-leb 32 at h)
-    go (no h) = rw (le-ltb at 32 (omega arith), le-leb 32 at (omega arith))
 
 pub none_there : (q : Query) (l : List Slot) → length l ≡ 32 → is_there q l ≡ false → found_at q l ≡ 32
 none_there q l size e = omega (arith, first_most (passes q) l, ltb-false (found_at q l) 32 e)

@@ -1,5 +1,5 @@
 -- Slots, 32 of a kind, one for each open message, and the own linktest: what is looked for in them, and where it is found.
-use Rattle.std.specs.Prelude.{ℕ, ◌+◌, ◌%◌, Bool, true, false, not, cond, List, eqb, leb, ltb, replicate}
+use Rattle.std.specs.Prelude.{ℕ, ◌+◌, ◌%◌, Bool, true, false, not, cond, List, eqb, leb, ltb, replicate, Option, Some, None}
 use Rattle.wire.specs.Search.{first_at}
 use Rattle.slots.specs.declared.Slot.{Slot}
 use Rattle.slots.specs.declared.Linktest.{Linktest}
@@ -38,6 +38,10 @@ passes (Answered n m f) s =
 -- the place of the first slot that is looked for; where there is none, how many there are, 32
 abbrev pub found_at : Query → List Slot → ℕ
 found_at q l = first_at (passes q) l
+
+-- a place among the 32, or none
+abbrev pub place_of : ℕ → Option ℕ
+place_of n = cond (ltb n 32) (Some n) None
 
 -- whether there is one
 abbrev pub is_there : Query → List Slot → Bool

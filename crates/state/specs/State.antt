@@ -10,7 +10,8 @@ use Rattle.state.specs.declared.Phase.TheVariants.{NotConnected, NotSelected, Se
 use Rattle.state.specs.declared.Link.{Link}
 use Rattle.state.specs.declared.Device.{Device}
 use Rattle.state.specs.declared.Session.{Session}
-use Rattle.state.specs.declared.Made.{Made}
+use Rattle.refusal.specs.Answer.{number_in}
+use Rattle.state.specs.declared.Made as answered
 
 -- the session of a device: not connected, the next own number 1, no slot taken, no linktest, all flags clear
 unfoldable pub session_of : ℕ → Session
@@ -19,6 +20,15 @@ session_of id =
       link = record { phase = NotConnected; linktest = no_test; next = 1 };
       device = record { id = id; flags = replicate 128 false; received = no_slots; own = no_slots };
     }
+
+-- what is made: the number, 0 or a refusal's, and the session
+pub record Made : Type 0 where
+  pub number : ℕ
+  pub session : Session
+
+-- a made session's answer, in numbers
+abbrev pub made_in : answered.Made → Made
+made_in r = record { number = number_in r.answer; session = r.session }
 
 -- a device ID above 32,767 is 28
 unfoldable pub made_of : ℕ → Made

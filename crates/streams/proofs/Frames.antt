@@ -9,8 +9,7 @@ use lib.Dec.{eqb}
 use lib.ListN.{length, take, drop, take-append-drop}
 use Rattle.frames.specs.State.{State, head, text, refused, state_of}
 use Rattle.frames.specs.Feed.{allows, after, fed, reached, eat, text_fed, start, fed_of, end_in, end_of}
-use Rattle.frames.specs.declared.Event.TheVariants.{More, Text, End, Refusal}
-use Rattle.frames.specs.declared.Fed.{Fed}
+use Rattle.frames.specs.Event.{More, Text, End, Refusal, Fed}
 use Rattle.frames.specs.declared.FrameReader.{FrameReader}
 use Rattle.frames.proofs.Held.{state_reader}
 use Rattle.streams.specs.Stream.{Frame, AllTaken, all, Unfinished, Split, WholeFrames, EndsInside, EndsWrong}

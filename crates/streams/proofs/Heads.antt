@@ -15,8 +15,7 @@ use Rattle.frames.specs.State.{head, text, refused}
 use Rattle.frames.specs.Feed.{head_number, after, fed, event_at, reached, eat}
 use Rattle.frames.specs.Asked.{Begun}
 use Rattle.frames.proofs.Heads.{length_front, number_four, number_whole, number_other, after_refused, after_whole, after_more}
-use Rattle.frames.specs.declared.Event.TheVariants.{More}
-use Rattle.frames.specs.declared.Fed.{Fed}
+use Rattle.frames.specs.Event.{More, Fed}
 use Rattle.streams.specs.Stream.{Wrong, too_short, too_long, other_length}
 
 -- a length that has a number, and a kind that has one, are its cause

@@ -17,7 +17,7 @@ use Rattle.frame.specs.Header.{header_bytes, header_of}
 use Rattle.frame.specs.Frame.{length_in, length_number, kind_number, frame_of}
 use Rattle.frame.proofs.Laws.{header_back, length_range, range_length}
 use Rattle.frames.specs.Feed.{eat}
-use Rattle.frames.specs.declared.Fed.{Fed}
+use Rattle.frames.specs.Event.{Fed}
 use Rattle.frames.proofs.Heads.{length_front, number_whole}
 use Rattle.streams.specs.Stream.{Frame, frame, Taken, all, Unfinished, Split, Wrong, too_short, too_long, other_length}
 use Rattle.streams.proofs.Heads.{whole, bad, begun_nothing, Ate, on, off, eat_ate}

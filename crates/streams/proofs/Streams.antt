@@ -19,10 +19,10 @@ use Rattle.frame.proofs.Laws.{bytes_back, length_range}
 use Rattle.frames.specs.State.{State, head, text, refused, reader_of}
 use Rattle.frames.specs.Feed.{all_zero, allows, fed, eat, text_fed, start, fed_of}
 use Rattle.frames.specs.Asked.{Begun}
-use Rattle.frames.specs.declared.Event.TheVariants as E
+use Rattle.frames.specs.Event as E
 use Rattle.frames.proofs.Heads.{length_front}
 use Rattle.frames.proofs.Held.{state_reader}
-use Rattle.frames.specs.declared.Fed.{Fed}
+use Rattle.frames.specs.Event.{Fed}
 use Rattle.frames.specs.declared.FrameReader.{FrameReader}
 use Rattle.streams.specs.Stream.{Frame, frame, AllTaken, all, Wrong, too_short, too_long, other_length}
 use Rattle.streams.specs.Handed.{Current, none, opened, begun, longer, ended, Handed, closed, after, Run, fed_more, feeds, fresh, AllBytes}

@@ -5,8 +5,7 @@ use Rattle.wire.specs.Number.{AtMost}
 use Rattle.frame.specs.declared.Header.{Header as FrameHeader}
 use Rattle.frames.specs.State.{State, head, text, refused, reader_of, state_of}
 use Rattle.frames.specs.Feed.{fed_of, end_of}
-use Rattle.frames.specs.declared.Event.{Event}
-use Rattle.frames.specs.declared.Event.TheVariants.{More, Header, Text, End, Refusal}
+use Rattle.frames.specs.Event.{Event, More, Header, Text, End, Refusal}
 use Rattle.frames.specs.declared.FrameReader.{FrameReader}
 use Rattle.streams.specs.Stream.{Frame, frame, Split, WholeFrames, EndsInside, Wrong, EndsWrong}
 

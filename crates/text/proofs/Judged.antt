@@ -1,6 +1,6 @@
 -- A text's number is 0 exactly for a text of the form that is asked for: the feed of the whole text is complete or refused, by demand 3.
 use Prim.Native.Nat.{ℕ, suc, ◌*◌, ◌≤◌, ◌<◌}
-use mathlib.Core.Path.{◌≡◌, refl, sym, ap, ◌∙◌}
+use mathlib.Core.Path.{◌≡◌, refl}
 use mathlib.Core.Bool.{Bool, true, false, cond}
 use mathlib.Core.List.{List, [], ◌∷◌}
 use mathlib.Core.Logic.{◌↔◌}
@@ -14,11 +14,7 @@ use Rattle.wire.specs.Number.{AtMost}
 use Rattle.item.specs.Item.{Formed, Good}
 use Rattle.item.specs.declared.Form.{Form}
 use Rattle.item.specs.declared.Form.TheVariants.{Good as good}
-use Rattle.reader.specs.State.{reader_of, fresh}
-use Rattle.reader.specs.Feed.{fed_of}
-use Rattle.reader.specs.declared.Answer.{Answer}
-use Rattle.reader.specs.declared.Reader.{Reader}
-use Rattle.reader.specs.declared.Fed.{Fed}
+use Rattle.reader.specs.Answer.{Answer}
 use Rattle.demand3.specs.Verdict.{Whole, is_formed, not_formed}
 use Rattle.demand3.proofs.Whole.{whole_text}
 use Rattle.rows.specs.Asked.{Sound}
@@ -26,14 +22,8 @@ use Rattle.rows.proofs.Walk.{good_sound}
 use Rattle.rows.specs.Row.{size_of}
 use Rattle.rows.specs.Rows.{rows_in}
 use Rattle.text.specs.Text.{number_in, judged_as, judged_of, measured_of, read_of}
-use Rattle.wire.specs.declared.Counted.TheVariants.{Is, Refused}
-use Rattle.text.specs.declared.Measured.TheVariants as M
-
--- the number of what the whole feed answers
-pub judged_is : (form : Form) (t : List ℕ) (r : Reader) (f : Fed) (a : Answer) → r ≡ reader_of (fresh form (length t)) → f ≡ fed_of r t → f.answer ≡ a
-    → number_in a ≡ judged_as form t
-unfolding judged_as
-judged_is form t r f a e g h = sym (ap number_in (ap (λ (x : Fed). x.answer) (ap (λ (x : Reader). fed_of x t) (sym e) ∙ sym g) ∙ h))
+use Rattle.refusal.specs.Answer.{Is, Refused}
+use Rattle.text.specs.Measured as M
 
 -- 0 exactly for the texts of the form
 pub judged_as_formed : (f : Form) (t : List ℕ) → AtMost 0xFF t → (judged_as f t ≡ 0) ↔ Formed f t

@@ -7,15 +7,14 @@ use Rattle.item.specs.declared.Kind.{Kind}
 use Rattle.item.specs.declared.Kind.TheVariants as K
 use Rattle.reader.specs.State.{reader_of, fresh}
 use Rattle.reader.specs.Feed.{fed_of}
-use Rattle.reader.specs.declared.Answer.{Answer}
-use Rattle.reader.specs.declared.Answer.TheVariants.{More, Complete, Refusal}
+use Rattle.reader.specs.Answer.{Answer, More, Complete, Refusal}
 use Rattle.rows.specs.Row.{table_of, part_at, inside, size_of}
 use Rattle.rows.specs.Rows.{rows_in}
 use Rattle.rows.specs.declared.Row.{Row}
-use Rattle.wire.specs.declared.Counted.{Counted}
-use Rattle.wire.specs.declared.Counted.TheVariants.{Is, Refused}
-use Rattle.text.specs.declared.Measured.{Measured}
-use Rattle.text.specs.declared.Measured.TheVariants as M
+use Rattle.refusal.specs.Answer.{Counted}
+use Rattle.refusal.specs.Answer.{Is, Refused}
+use Rattle.text.specs.Measured.{Measured}
+use Rattle.text.specs.Measured as M
 
 -- the number of an answer; 0 for a text of the form. That a whole text is never answered more is proved, so that its 5 is not met.
 abbrev pub number_in : Answer → ℕ

@@ -1,34 +1,36 @@
+// A whole text judged, its rows read into a table, and a row's content as a part of the text.
 #![tactic(auto)]
 
-ghost use Rattle.std.specs.Prelude.{◌≡◌, ◌+◌, ◌*◌, ◌≤◌, [], ◌∷◌, length, get_or, drop};
+ghost use Rattle.std.specs.Prelude.{◌≡◌, ◌+◌, ◌*◌, ◌≤◌, IfOk, length, get_or, drop};
 ghost use Rattle.std.proofs.lemmas.List.Edits.{sets};
-ghost use Rattle.rows.specs.Row.{content_size, size_of, table_of};
+ghost use Rattle.refusal.specs.Answer.{number_in, counted_in};
+ghost use Rattle.rows.specs.Row.{size_of, table_of};
 ghost use Rattle.rows.specs.Rows.{row_at, rows_in};
 ghost use Rattle.rows.specs.Asked.{Sound};
 ghost use Rattle.text.specs.Text.{judged_as, judged_of, measured_of, read_of, table_after, part_number, part_of};
+ghost use Rattle.text.specs.Measured.{measured_in};
 ghost use Rattle.text.specs.Asked.{HeaderAt};
 
 use item::{Form, Kind};
-use reader::Answer;
+use reader::Progress;
+use refusal::Refusal;
 use rows::Row;
-use wire::Counted;
 
-// A text's number by the fed reader, told the form, with N the text's length; 0 for a text of that form.
-pub fn judge_as(form: Form, text: &[u8]) -> u32
-    ensures { result ≡ judged_as form text.now }
+/// Whether a text is one of a form: what the fed reader answers of it, told the form, with N the text's length.
+#[tactic(auto, unfolding(crate::specs::Text::judged_as))]
+pub fn judge_as(form: Form, text: &[u8]) -> Result<(), Refusal>
+    ensures { number_in result ≡ judged_as form text.now }
 {
-    let f = reader::feed(reader::fresh_reader(form, text.len()), text);
-    let answer = f.answer;
-    match answer {
-        Answer::Complete => 0,
-        Answer::Refusal(number) => number,
-        Answer::More => 5,
+    match reader::feed(reader::fresh_reader(form, text.len()), text).answer? {
+        Progress::Complete => Ok(()),
+        // a whole text is complete or refused
+        Progress::More => Err(Refusal::NoSuchText),
     }
 }
 
-// A text's number; 0 for a good text.
-pub fn judge(text: &[u8]) -> u32
-    ensures { result ≡ judged_of text.now }
+/// Whether a text is good.
+pub fn judge(text: &[u8]) -> Result<(), Refusal>
+    ensures { number_in result ≡ judged_of text.now }
 {
     judge_as(Form::Good, text)
 }
@@ -38,77 +40,51 @@ fn row_at(text: &[u8], p: usize) -> Row
     requires { HeaderAt text.now p }
     ensures { result ≡ row_at p (get_or text.now p 0) (drop (p + 1) text.now) }
 {
-    let b = text[p];
+    let format = text[p];
     let from = p + 1;
-    let to = from + (b % 4) as usize;
-    let length = wire::number(&text[from..to]);
+    let to = from + usize::from(format % 4);
     Row {
-        code: (b / 4) as u32,
-        length: length as u32,
+        code: u32::from(format / 4),
+        length: wire::number(&text[from..to]) as u32,
         place: to as u32,
     }
 }
 
-// The place behind a row's own bytes, where the next format byte stands.
-fn behind(r: Row) -> usize
-    ensures { result ≡ r.place + content_size r.code r.length }
-{
-    let code = r.code;
-    let place = r.place as usize;
-    if code == item::L {
-        place
-    } else {
-        place + (r.length as usize)
-    }
+/// What must be lent for a text: how many rows it has, and how many bytes its lean form.
+#[derive(Clone, Copy, Debug, PartialEq, Eq)]
+pub struct Room {
+    pub rows: usize,
+    pub bytes: usize,
 }
 
-// How many rows a text has, and how many bytes its lean form.
-#[derive(Clone, Copy)]
-pub enum Measured {
-    Are { rows: usize, bytes: usize },
-    Refused(u32),
-}
-
-fn measure_good(text: &[u8]) -> Measured
+// This walk and that of `fill` go from row to row by the place behind each row's own bytes, which no iterator of std does.
+fn measure_good(text: &[u8]) -> Room
     requires { Sound text.now }
-    ensures { result ≡ Measured.Are (length (rows_in text.now)) (size_of (rows_in text.now)) }
+    ensures rows { result.rows ≡ length (rows_in text.now) }
+    ensures bytes { result.bytes ≡ size_of (rows_in text.now) }
 {
     let mut p: usize = 0;
     let mut rows: usize = 0;
     let mut bytes: usize = 0;
     while p < text.len() {
-        let r = row_at(text, p);
-        let code = r.code;
-        let length = r.length;
-        bytes += rows::lean_size(code, length);
+        let row = row_at(text, p);
         rows += 1;
-        p = behind(r);
+        bytes += row.lean_size();
+        p = row.place as usize + row.content_size();
     }
-    Measured::Are { rows, bytes }
+    Room { rows, bytes }
 }
 
-// What must be lent to read a text and to write its lean form; its number where it is not good.
-pub fn measure(text: &[u8]) -> Measured
-    ensures { result ≡ measured_of text.now }
+/// What must be lent to read a text and to write its lean form.
+#[tactic(auto, unfolding(crate::specs::Text::measured_of))]
+pub fn measure(text: &[u8]) -> Result<Room, Refusal>
+    ensures { measured_in result ≡ measured_of text.now }
 {
-    let number = judge(text);
-    if number == 0 {
-        measure_good(text)
-    } else {
-        Measured::Refused(number)
-    }
+    judge(text)?;
+    Ok(measure_good(text))
 }
 
-// Three numbers of a table from place i on.
-fn put_row(table: &mut [u32], i: usize, r: Row)
-    requires { i + 3 ≤ length table.old }
-    ensures { table.new ≡ sets table.old i (table_of (r ∷ [])) }
-{
-    table[i] = r.code;
-    table[i + 1] = r.length;
-    table[i + 2] = r.place;
-}
-
+// Writes the rows of a good text into a table that has room for them.
 fn fill(text: &[u8], table: &mut [u32])
     requires sound { Sound text.now }
     requires text_in_bounds { 3 * length (rows_in text.now) ≤ length table.old }
@@ -117,53 +93,35 @@ fn fill(text: &[u8], table: &mut [u32])
     let mut p: usize = 0;
     let mut i: usize = 0;
     while p < text.len() {
-        let r = row_at(text, p);
-        put_row(table, i, r);
+        let row = row_at(text, p);
+        table[i..i + 3].copy_from_slice(&<[u32; 3]>::from(row));
         i += 3;
-        p = behind(r);
+        p = row.place as usize + row.content_size();
     }
 }
 
-// Reads a whole text into a table of rows, three numbers a row, and answers how many rows.
-pub fn read(text: &[u8], table: &mut [u32]) -> Counted
-    ensures { (result ≡ read_of text.now (length table.old))
-        × (table.new ≡ table_after result text.now table.old) }
+/// Reads a whole text into a table of rows, three numbers a row, and answers how many rows.
+pub fn read(text: &[u8], table: &mut [u32]) -> Result<usize, Refusal>
+    ensures answer { counted_in result ≡ read_of text.now (length table.old) }
+    ensures table { table.new ≡ table_after (counted_in result) text.now table.old }
 {
-    match measure(text) {
-        Measured::Refused(number) => Counted::Refused(number),
-        Measured::Are { rows, bytes: _ } => {
-            if table.len() < 3 * rows {
-                return Counted::Refused(19);
-            }
-            fill(text, table);
-            Counted::Is(rows)
-        }
+    let rows = measure(text)?.rows;
+    if table.len() < 3 * rows {
+        return Err(Refusal::ShortTable);
     }
+    fill(text, table);
+    Ok(rows)
 }
 
-fn part_number(text: &[u8], r: Row) -> u32
-    ensures { result ≡ part_number text.now r }
+/// The content of a row that is no list, as a part of the text.
+#[tactic(auto, unfolding(crate::specs::Text::part_number, crate::specs::Text::part_of))]
+pub fn part(text: &[u8], row: Row) -> Result<&[u8], Refusal>
+    ensures number { number_in result ≡ part_number text.now row }
+    ensures part { IfOk result (λ part. part.now ≡ part_of text.now row) }
 {
-    let code = r.code;
-    let to = (r.place as usize) + (r.length as usize);
-    match item::kind_of(code) {
-        Kind::Unknown => 1,
-        Kind::List => 9,
-        Kind::Plain(_) => if to <= text.len() { 0 } else { 16 },
-    }
-}
-
-// The content of a row that is no list, as a part of the text; number is 0, or the refusal's, and a refused part is empty.
-pub fn part<'a>(text: &'a [u8], r: Row, number: &mut u32) -> &'a [u8]
-    ensures { (result.now ≡ part_of text.now r) × (number.new ≡ part_number text.now r) }
-{
-    let n = part_number(text, r);
-    *number = n;
-    if n == 0 {
-        let from = r.place as usize;
-        let to = from + (r.length as usize);
-        &text[from..to]
-    } else {
-        &text[0..0]
+    match item::kind_of(row.code) {
+        Kind::Unknown => Err(Refusal::UnknownCode),
+        Kind::List => Err(Refusal::IsList),
+        Kind::Plain(_) => row.part_of(text).ok_or(Refusal::OutsideContent),
     }
 }

@@ -14,6 +14,9 @@ pub pick_false {ℓ} : {A : Type ℓ} (b : Bool) (x y : A) → b ≡ false → p
 unfolding pick
 pick_false b x y e = rw e
 
+-- a choice whose test is known
+pub ruleset picks = (pick_true, pick_false)
+
 pub by_pick {ℓ} : {A : Type ℓ} (P : A → Type 0) (b : Bool) (x y : A) → (b ≡ true → P x) → (b ≡ false → P y) → P (pick b x y)
 unfolding pick
 by_pick P true x y f g = f refl

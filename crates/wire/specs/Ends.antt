@@ -3,7 +3,7 @@ use Rattle.std.specs.Prelude.{ℕ, List, [], ◌∷◌, ◌≡◌, ℤ, pos, neg
 use Rattle.wire.specs.Twos.{signed_of, unsigned_of}
 use Rattle.wire.specs.declared.Width.{Width}
 use Rattle.wire.specs.declared.Width.TheVariants.{One, Two, Four, Eight}
-use Rattle.wire.specs.declared.Bits.TheVariants.{Are, Out}
+use Rattle.std.specs.Prelude.{Some, None}
 
 abbrev pub minus : ℕ → ℤ
 minus n = neg_ℤ (pos n)
@@ -31,7 +31,7 @@ ends =
 
 -- both ways
 abbrev pub Stands : Width × ℕ × ℤ → Type 0
-Stands e = (signed_of e.0 e.1 ≡ e.2) × (unsigned_of e.0 e.2 ≡ Are e.1)
+Stands e = (signed_of e.0 e.1 ≡ e.2) × (unsigned_of e.0 e.2 ≡ Some e.1)
 
 -- a width, and the next signed number on either side, which has no bits there; of eight bytes an i64 holds no other
 abbrev pub outside : List (Width × ℤ)
@@ -45,4 +45,4 @@ outside =
     ∷ []
 
 abbrev pub NoBits : Width × ℤ → Type 0
-NoBits e = unsigned_of e.0 e.1 ≡ Out
+NoBits e = unsigned_of e.0 e.1 ≡ None

@@ -8,30 +8,14 @@ ghost use Rattle.wire.specs.Twos.{half_of, signed_of, unsigned_of};
 // The most bytes that a text may have.
 pub const LONGEST: usize = 32_000;
 
-// How many there are, or the refusal's number: what calls answer that count rows or bytes.
-#[derive(Clone, Copy)]
-pub enum Counted {
-    Is(usize),
-    Refused(u32),
-}
-
-// The smaller of two counts.
-pub fn smaller(m: usize, n: usize) -> usize
-    ensures { result ≡ min m n }
-{
-    if m <= n { m } else { n }
-}
-
 // The number that at most eight bytes stand for, high byte first.
 fn number_of_few(s: &[u8]) -> u64
     requires { length s.now ≤ 8 }
     ensures { (result ≡ number_of s.now) × (result < 256 ^ length s.now) }
 {
     let mut n: u64 = 0;
-    let mut i: usize = 0;
-    while i < s.len() {
-        n = n * 256 + (s[i] as u64);
-        i += 1;
+    for byte in s {
+        n = n * 256 + u64::from(*byte);
     }
     n
 }
@@ -40,23 +24,17 @@ fn number_of_few(s: &[u8]) -> u64
 pub fn number(s: &[u8]) -> u64
     ensures { (result ≡ number_of (take 8 s.now)) × (result < 256 ^ length s.now) }
 {
-    if s.len() <= 8 {
-        number_of_few(s)
-    } else {
-        number_of_few(&s[..8])
-    }
+    number_of_few(&s[..s.len().min(8)])
 }
 
 // Fills s with the last bytes of n, high byte first; 00 where n has no more.
 pub fn put(s: &mut [u8], n: u64)
     ensures { s.new ≡ bytes_of (length s.old) n }
 {
-    let mut i = s.len();
     let mut left = n;
-    while 0 < i {
-        i -= 1;
+    for i in (0..s.len()).rev() {
         s[i] = (left % 256) as u8;
-        left = left / 256;
+        left /= 256;
     }
 }
 
@@ -64,15 +42,12 @@ pub fn put(s: &mut [u8], n: u64)
 pub fn copy(dst: &mut [u8], src: &[u8])
     ensures { dst.new ≡ copied dst.old src.now }
 {
-    let mut i: usize = 0;
-    while i < dst.len() && i < src.len() {
-        dst[i] = src[i];
-        i += 1;
-    }
+    let n = dst.len().min(src.len());
+    dst[..n].copy_from_slice(&src[..n]);
 }
 
 // The widths of a number on the wire, in bytes.
-#[derive(Clone, Copy)]
+#[derive(Clone, Copy, Debug, PartialEq, Eq)]
 pub enum Width {
     One,
     Two,
@@ -112,27 +87,20 @@ pub fn signed(w: Width, n: u64) -> i64
     }
 }
 
-// The bits of a signed number at a width, or that the width has none.
-#[derive(Clone, Copy)]
-pub enum Bits {
-    Are(u64),
-    Out,
-}
-
-// The number that stands for x in two's complement.
-pub fn unsigned(w: Width, x: i64) -> Bits
+// The number that stands for x in two's complement, if the width has one.
+pub fn unsigned(w: Width, x: i64) -> Option<u64>
     ensures { result ≡ unsigned_of w x }
 {
     let half = half_of(w);
     if x >= 0 {
         let n = x as u64;
-        if n < half { Bits::Are(n) } else { Bits::Out }
+        if n < half { Some(n) } else { None }
     } else {
         let m = (!x) as u64;
         if m < half {
-            Bits::Are(half + (half - 1 - m))
+            Some(half + (half - 1 - m))
         } else {
-            Bits::Out
+            None
         }
     }
 }

@@ -1,6 +1,7 @@
 -- Two outcomes that a promise permits for the same call are equal: each is the one that the definition gives.
 use mathlib.Core.Path.{◌≡◌, sym, ap, ◌∙◌}
-use Rattle.wire.specs.declared.Counted.{Counted}
+use Rattle.refusal.specs.Answer.{Counted}
+use Rattle.refusal.proofs.Once.{one_count}
 use Rattle.rows.specs.Row.{rows_of, text_of}
 use Rattle.rows.specs.Rows.{rows_in}
 use Rattle.writer.specs.Writing.{rows_after}
@@ -12,15 +13,15 @@ write_one :
     (κs : _) (a : _) (r r' : _) (s s' : _) → write_reads.Post κs a r s → write_reads.Post κs a r' s'
     → (r ≡ r') × (s.1.1.0.now ≡ s'.1.1.0.now)
 write_one κs a r r' s s' p q =
-    let e : r ≡ r' = p.0 ∙ sym q.0 in
-    (e, p.1 ∙ ap (λ (x : Counted). out_after x (text_of a.1.0.now (rows_of a.0.now)) a.1.1.0.now) e ∙ sym q.1)
+    let e = p.0 ∙ sym q.0 in
+    (one_count r r' e, p.1 ∙ ap (λ (x : Counted). out_after x (text_of a.1.0.now (rows_of a.0.now)) a.1.1.0.now) e ∙ sym q.1)
 
 write_lean_one :
     (κs : _) (a : _) (r r' : _) (s s' : _) → write_lean_reads.Post κs a r s → write_lean_reads.Post κs a r' s'
     → (r ≡ r') × (s.1.0.now ≡ s'.1.0.now) × (s.1.1.0.now ≡ s'.1.1.0.now)
 write_lean_one κs a r r' s s' p q =
-    let e : r ≡ r' = p.0 ∙ sym q.0 in (
-      e,
-      p.1 ∙ ap (λ (x : Counted). rows_after x a.0.now a.1.0.now) e ∙ sym q.1,
-      p.2 ∙ ap (λ (x : Counted). out_after x (text_of a.0.now (rows_in a.0.now)) a.1.1.0.now) e ∙ sym q.2,
+    let e = p.0 ∙ sym q.0 in (
+      one_count r r' e,
+      p.1.0 ∙ ap (λ (x : Counted). rows_after x a.0.now a.1.0.now) e ∙ sym q.1.0,
+      p.1.1 ∙ ap (λ (x : Counted). out_after x (text_of a.0.now (rows_in a.0.now)) a.1.1.0.now) e ∙ sym q.1.1,
     )

@@ -17,11 +17,11 @@ use Rattle.item.proofs.Codes.{of_plain, plain_not_list, list_code}
 use Rattle.levels.specs.Levels.{began, leaving}
 use Rattle.levels.proofs.Laws.{leaving_some}
 use Rattle.wire.specs.Lists.{Each}
-use Rattle.rows.specs.Row.{rows_of, part_at, inside}
+use Rattle.rows.specs.Row.{rows_of, part_at, inside, text_of, size_of}
 use Rattle.rows.specs.Rows.{HasItem, HasAll, Has}
 use Rattle.rows.specs.declared.Row.{Row}
 use Rattle.rows.specs.Asked.{Fits}
-use Rattle.rows.proofs.Tables.{part_length}
+use Rattle.rows.proofs.Tables.{part_length, text_length}
 use Rattle.rows.proofs.Trees.{tree_fits}
 use Rattle.writer.specs.Writing.{at_most, list_number, content_number, number_as, row_number, levels_behind, judged_from, rows_number, table_number}
 use Rattle.writer.proofs.Judged.{behind_plain, behind_list, behind_few, judged_on}
@@ -248,3 +248,6 @@ module _ (s : List ℕ) where
       go : (b : Bool) → cond b (rows_number s (rows_of table)) 15 ≡ 0 → Each (Fits s) (rows_of table)
       go true y = let (w, h) = taken_has (rows_of table) y in tree_fits w s (rows_of table) h
       go false y = absurd (omega arith)
+
+pub sized : (s table : List ℕ) → table_number s table ≡ 0 → length (text_of s (rows_of table)) ≡ size_of (rows_of table)
+sized s table z = text_length s (rows_of table) (table_fits s table z)

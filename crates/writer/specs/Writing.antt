@@ -9,8 +9,8 @@ use Rattle.rows.specs.Row.{rows_of, table_of, part_at, inside, text_of, size_of}
 use Rattle.rows.specs.Rows.{rows_in}
 use Rattle.rows.specs.declared.Row.{Row}
 use Rattle.text.specs.Text.{judged_of}
-use Rattle.wire.specs.declared.Counted.{Counted}
-use Rattle.wire.specs.declared.Counted.TheVariants.{Is, Refused}
+use Rattle.refusal.specs.Answer.{Counted}
+use Rattle.refusal.specs.Answer.{Is, Refused}
 
 -- each of these bytes is at most m
 abbrev pub at_most : ℕ → List ℕ → Bool

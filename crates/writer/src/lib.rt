@@ -1,183 +1,163 @@
+// Rows over a content written as their lean text, and a text as its lean form.
 #![tactic(auto)]
 
-ghost use Rattle.std.specs.Prelude.{◌≡◌, ◌+◌, ◌≤◌, ◌<◌, min, [], ◌∷◌, length, get_or, cond, eqb};
+ghost use Rattle.std.specs.Prelude.{◌≡◌, ◌+◌, ◌≤◌, ◌<◌, [], ◌∷◌, length, map, cond, eqb, MatchResult};
 ghost use Rattle.std.proofs.lemmas.List.Edits.{sets};
+ghost use Rattle.refusal.specs.Answer.{number_in, counted_in};
+ghost use Rattle.refusal.specs.declared.Refusal.TheVariants.{LongText};
+ghost use Rattle.wire.specs.Lent.{out_after};
+ghost use Rattle.wire.specs.Lists.{Each};
 ghost use Rattle.wire.specs.Longest.{longest};
 ghost use Rattle.item.specs.Code.{L, BOOLEAN};
 ghost use Rattle.item.specs.Item.{truth, told, lean_header};
 ghost use Rattle.levels.specs.Levels.{stack, levels_of, Clean};
-ghost use Rattle.wire.specs.Lists.{Each};
-ghost use Rattle.rows.specs.Row.{row, rows_of, row_text, text_of, size_of};
-ghost use Rattle.rows.specs.Rows.{rows_in};
 ghost use Rattle.rows.specs.Asked.{Fits};
-ghost use Rattle.writer.specs.Writing.{at_most, list_number, content_number, row_number, levels_behind, judged_from, table_number, written_of, leaned_of, rows_after};
-ghost use Rattle.wire.specs.Lent.{out_after};
+ghost use Rattle.rows.specs.Row.{row_of, rows_of, row_text, text_of, size_of};
+ghost use Rattle.rows.specs.Rows.{rows_in};
+ghost use Rattle.writer.specs.Writing.{at_most, list_number, content_number, row_number, levels_behind, judged_from, table_number};
+ghost use Rattle.writer.specs.Writing.{written_of, leaned_of, rows_after};
 
 use item::Kind;
 use levels::Levels;
+use refusal::Refusal;
 use rows::Row;
-use text::Measured;
-use wire::{Counted, LONGEST};
+use wire::LONGEST;
 
-// The row that begins with the table's number i.
-fn row_in(table: &[u32], i: usize) -> Row
-    requires { i + 3 ≤ length table.now }
-    ensures { result ≡ row (get_or table.now i 0) (get_or table.now (i + 1) 0) (get_or table.now (i + 2) 0) }
+// The rows of a table, three numbers each; fewer than three behind them are no row.
+fn rows_of(table: &[u32]) -> &[[u32; 3]]
+    ensures { map row_of result.now ≡ rows_of table.now }
 {
-    Row {
-        code: table[i],
-        length: table[i + 1],
-        place: table[i + 2],
-    }
+    table.as_chunks::<3>().0
 }
 
+#[tactic(auto, using(crate::proofs::Judged::all_within))]
 fn all_at_most(s: &[u8], largest: u8) -> bool
     ensures { result ≡ at_most largest s.now }
 {
-    let mut i: usize = 0;
-    while i < s.len() {
-        if largest < s[i] {
-            return false;
-        }
-        i += 1;
-    }
-    true
+    s.iter().all(|byte| *byte <= largest)
 }
 
-fn content_number(content: &[u8], r: Row) -> u32
-    ensures { result ≡ content_number content.now r }
+#[tactic(auto, unfolding(crate::specs::Writing::content_number))]
+fn judge_content(content: &[u8], row: Row) -> Result<(), Refusal>
+    ensures { number_in result ≡ content_number content.now row }
 {
-    let code = r.code;
-    let from = r.place as usize;
-    let length = r.length as usize;
-    let to = from + length;
-    if item::is_allowed(code, length) {
-        if content.len() < to {
-            return 16;
-        }
-        if all_at_most(&content[from..to], item::largest_byte(code)) {
-            return 0;
-        }
-        return 6;
+    if !item::is_allowed(row.code, row.length as usize) {
+        return Err(Refusal::WrongLength);
     }
-    3
+    let part = row.part_of(content).ok_or(Refusal::OutsideContent)?;
+    if all_at_most(part, item::largest_byte(row.code)) {
+        Ok(())
+    } else {
+        Err(Refusal::WrongByte)
+    }
 }
 
-fn list_number(l: Levels, r: Row) -> u32
-    ensures { result ≡ list_number (stack l) r }
+#[tactic(auto, using(levels::proofs::Laws::stack_length))]
+fn judge_list(l: Levels, row: Row) -> Result<(), Refusal>
+    ensures { number_in result ≡ list_number (stack l) row }
 {
-    let length = r.length;
-    let depth = l.level;
-    if length == 0 {
-        return 0;
+    if row.length != 0 && l.level == 16 {
+        Err(Refusal::TooDeep)
+    } else {
+        Ok(())
     }
-    if depth == 16 { 4 } else { 0 }
 }
 
-// A row's number at the levels; 0 where it is in order.
-fn row_number(l: Levels, content: &[u8], r: Row) -> u32
-    ensures { result ≡ row_number content.now (stack l) r }
+// Whether a row is in order at the levels.
+#[tactic(auto, using(crate::proofs::Judged::none_open, crate::proofs::Judged::some_open, levels::proofs::Laws::stack_length))]
+fn judge_row(l: Levels, content: &[u8], row: Row) -> Result<(), Refusal>
+    ensures { number_in result ≡ row_number content.now (stack l) row }
 {
-    let code = r.code;
-    let depth = l.level;
-    if depth == 0 {
-        return 15;
+    if l.level == 0 {
+        return Err(Refusal::NotOneItem);
     }
-    match item::kind_of(code) {
-        Kind::Unknown => 1,
-        Kind::List => list_number(l, r),
-        Kind::Plain(_) => content_number(content, r),
+    match item::kind_of(row.code) {
+        Kind::Unknown => Err(Refusal::UnknownCode),
+        Kind::List => judge_list(l, row),
+        Kind::Plain(_) => judge_content(content, row),
     }
 }
 
 // The levels behind a row.
-fn levels_behind(l: Levels, r: Row) -> Levels
+fn levels_behind(l: Levels, row: Row) -> Levels
     requires clean { Clean l }
-    requires r_value { r.code ≡ L → list_number (stack l) r ≡ 0 }
-    ensures { result ≡ levels_of (levels_behind (stack l) r) }
+    requires in_order { row.code ≡ L → list_number (stack l) row ≡ 0 }
+    ensures { result ≡ levels_of (levels_behind (stack l) row) }
 {
-    let code = r.code;
-    let length = r.length;
-    let low = levels::begun(l);
-    if code == item::L {
-        if length != 0 {
-            return levels::opened(low, length);
-        }
+    let low = l.begun();
+    if row.code == item::L && row.length != 0 {
+        low.opened(row.length)
+    } else {
+        low.closed()
     }
-    levels::closed(low)
 }
 
-fn judge_rows(table: &[u32], content: &[u8]) -> u32
-    ensures { result ≡ judged_from content.now (1 ∷ []) (rows_of table.now) }
+fn judge_rows(rows: &[[u32; 3]], content: &[u8]) -> Result<(), Refusal>
+    ensures { number_in result ≡ judged_from content.now (1 ∷ []) (map row_of rows.now) }
 {
-    let mut l = levels::opened(levels::none(), 1);
-    let mut i: usize = 0;
-    while 3 <= table.len() - i {
-        let r = row_in(table, i);
-        let number = row_number(l, content, r);
-        if number != 0 {
-            return number;
-        }
-        l = levels_behind(l, r);
-        i += 3;
+    let mut l = Levels::none().opened(1);
+    for numbers in rows {
+        let row = Row::from(*numbers);
+        judge_row(l, content, row)?;
+        l = levels_behind(l, row);
     }
-    let depth = l.level;
-    if depth == 0 { 0 } else { 15 }
+    if l.level == 0 {
+        Ok(())
+    } else {
+        Err(Refusal::NotOneItem)
+    }
 }
 
-// The number of a table's rows over a content; 0 where they are none or one whole item.
-fn table_number(table: &[u32], content: &[u8]) -> u32
-    ensures { result ≡ table_number content.now table.now }
+// Whether a table's rows over a content are none, or one whole item.
+#[tactic(auto, using(crate::proofs::Judged::some_rows, rows::proofs::Tables::rows_few), unfolding(crate::specs::Writing::table_number))]
+fn judge_table(table: &[u32], content: &[u8]) -> Result<(), Refusal>
+    ensures { number_in result ≡ table_number content.now table.now }
 {
-    if table.len() % 3 != 0 {
-        return 15;
+    if !table.len().is_multiple_of(3) {
+        return Err(Refusal::NotOneItem);
     }
-    if table.len() == 0 {
-        return 0;
+    if table.is_empty() {
+        return Ok(());
     }
-    judge_rows(table, content)
+    judge_rows(rows_of(table), content)
 }
 
-// The bytes of the rows' lean text, or one above the longest where they are more.
-fn text_size(table: &[u32]) -> usize
-    ensures { result ≡ min (1 + longest) (size_of (rows_of table.now)) }
+// The bytes of the rows' lean text.
+#[tactic(auto, using(rows::proofs::Tables::row_size_most, crate::proofs::Judged::sizes_from, crate::proofs::Judged::sizes_none))]
+fn text_size(rows: &[[u32; 3]]) -> Result<usize, Refusal>
+    ensures { MatchResult result (λ size. (size ≡ size_of (map row_of rows.now)) × (size ≤ longest))
+        (λ e. (e ≡ LongText) × (longest < size_of (map row_of rows.now))) }
 {
-    let mut size: usize = 0;
-    let mut i: usize = 0;
-    while 3 <= table.len() - i {
-        size += rows::lean_size(table[i], table[i + 1]);
-        if LONGEST < size {
-            return LONGEST + 1;
+    let mut bytes: usize = 0;
+    for numbers in rows {
+        bytes += Row::from(*numbers).lean_size();
+        if bytes > LONGEST {
+            return Err(Refusal::LongText);
         }
-        i += 3;
     }
-    size
+    Ok(bytes)
 }
 
 // Writes a row's format byte and its fewest length bytes, and answers the place behind them.
-fn put_header(out: &mut [u8], at: usize, r: Row) -> usize
-    requires { (at + length (lean_header r.code r.length) ≤ length out.old) × (r.code < 63) }
-    ensures { (out.new ≡ sets out.old at (lean_header r.code r.length)) × (result ≡ at + length (lean_header r.code r.length)) }
+#[tactic(auto, using(rows::proofs::Tables::fewest_few, wire::proofs::Numbers::length_bytes))]
+fn put_header(out: &mut [u8], at: usize, row: Row) -> usize
+    requires room { at + length (lean_header row.code row.length) ≤ length out.old }
+    requires small { row.code < 63 }
+    ensures out { out.new ≡ sets out.old at (lean_header row.code row.length) }
+    ensures behind { result ≡ at + length (lean_header row.code row.length) }
 {
-    let code = r.code;
-    let length = r.length;
-    let k = item::length_bytes(length);
-    let from = at + 1;
-    let to = from + k;
-    out[at] = (code * 4 + (k as u32)) as u8;
-    wire::put(&mut out[from..to], length as u64);
+    let count = item::length_bytes(row.length);
+    let to = at + 1 + count;
+    out[at] = (row.code * 4 + count as u32) as u8;
+    wire::put(&mut out[at + 1..to], u64::from(row.length));
     to
 }
 
 // A content byte in lean form.
-fn lean_byte(code: u32, b: u8) -> u8
-    ensures { result ≡ cond (eqb code BOOLEAN) (truth b) b }
+fn lean_byte(code: u32, byte: u8) -> u8
+    ensures { result ≡ cond (eqb code BOOLEAN) (truth byte) byte }
 {
-    if code == 0o11 {
-        if b == 0 { 0 } else { 1 }
-    } else {
-        b
-    }
+    if code == 0o11 && byte != 0 { 1 } else { byte }
 }
 
 // Writes a content in lean form.
@@ -185,81 +165,69 @@ fn put_content(out: &mut [u8], at: usize, code: u32, content: &[u8])
     requires { at + length content.now ≤ length out.old }
     ensures { out.new ≡ sets out.old at (told code content.now) }
 {
-    let mut i: usize = 0;
-    while i < content.len() {
-        out[at + i] = lean_byte(code, content[i]);
-        i += 1;
+    for (i, byte) in content.iter().enumerate() {
+        out[at + i] = lean_byte(code, *byte);
     }
 }
 
 // Writes a row's lean text, and answers the place behind it.
-fn put_row(out: &mut [u8], at: usize, content: &[u8], r: Row) -> usize
-    requires fits { Fits content.now r }
-    requires r_in_bounds { at + length (row_text content.now r) ≤ length out.old }
-    ensures { (out.new ≡ sets out.old at (row_text content.now r)) × (result ≡ at + length (row_text content.now r)) }
+fn put_row(out: &mut [u8], at: usize, content: &[u8], row: Row) -> usize
+    requires fits { Fits content.now row }
+    requires room { at + length (row_text content.now row) ≤ length out.old }
+    ensures out { out.new ≡ sets out.old at (row_text content.now row) }
+    ensures behind { result ≡ at + length (row_text content.now row) }
 {
-    let code = r.code;
-    let length = r.length;
-    let body = put_header(out, at, r);
-    if code == item::L {
+    let body = put_header(out, at, row);
+    if row.code == item::L {
         return body;
     }
-    let from = r.place as usize;
-    let size = length as usize;
-    let to = from + size;
-    put_content(out, body, code, &content[from..to]);
-    body + size
+    let from = row.place as usize;
+    let to = from + row.length as usize;
+    put_content(out, body, row.code, &content[from..to]);
+    body + row.length as usize
 }
 
 // Writes the rows' lean texts end to end from place 0.
-fn put_rows(table: &[u32], content: &[u8], out: &mut [u8])
-    requires each { Each (Fits content.now) (rows_of table.now) }
-    requires table_in_bounds { length (text_of content.now (rows_of table.now)) ≤ length out.old }
-    ensures { out.new ≡ sets out.old 0 (text_of content.now (rows_of table.now)) }
+fn put_rows(rows: &[[u32; 3]], content: &[u8], out: &mut [u8])
+    requires each { Each (Fits content.now) (map row_of rows.now) }
+    requires room { length (text_of content.now (map row_of rows.now)) ≤ length out.old }
+    ensures { out.new ≡ sets out.old 0 (text_of content.now (map row_of rows.now)) }
 {
-    let mut i: usize = 0;
     let mut at: usize = 0;
-    while 3 <= table.len() - i {
-        let r = row_in(table, i);
-        at = put_row(out, at, content, r);
-        i += 3;
+    for numbers in rows {
+        at = put_row(out, at, content, Row::from(*numbers));
     }
 }
 
-// Writes the lean text of rows over a content, and answers the bytes used.
-pub fn write(table: &[u32], content: &[u8], out: &mut [u8]) -> Counted
-    ensures { (result ≡ written_of table.now content.now (length out.old)) × (out.new ≡ out_after result (text_of content.now (rows_of table.now)) out.old) }
+/// Writes the lean text of rows over a content, and answers the bytes used.
+#[tactic(auto, using(crate::proofs::OneItem::sized, crate::proofs::OneItem::table_fits), unfolding(crate::specs::Writing::written_of))]
+pub fn write(table: &[u32], content: &[u8], out: &mut [u8]) -> Result<usize, Refusal>
+    ensures answer { counted_in result ≡ written_of table.now content.now (length out.old) }
+    ensures out { out.new ≡ out_after (counted_in result) (text_of content.now (rows_of table.now)) out.old }
 {
-    let number = table_number(table, content);
-    if number != 0 {
-        return Counted::Refused(number);
-    }
-    let size = text_size(table);
-    if LONGEST < size {
-        return Counted::Refused(18);
-    }
+    judge_table(table, content)?;
+    let rows = rows_of(table);
+    let size = text_size(rows)?;
     if out.len() < size {
-        return Counted::Refused(17);
+        return Err(Refusal::ShortOutput);
     }
-    put_rows(table, content, out);
-    Counted::Is(size)
+    put_rows(rows, content, out);
+    Ok(size)
 }
 
-// Reads a text into a table of rows and writes its lean form; answers the bytes used.
-pub fn write_lean(text: &[u8], table: &mut [u32], out: &mut [u8]) -> Counted
-    ensures { (result ≡ leaned_of text.now (length table.old) (length out.old)) × (table.new ≡ rows_after result text.now table.old) × (out.new ≡ out_after result (text_of text.now (rows_in text.now)) out.old) }
+/// Reads a text into a table of rows and writes its lean form; answers the bytes used.
+pub fn write_lean(text: &[u8], table: &mut [u32], out: &mut [u8]) -> Result<usize, Refusal>
+    ensures answer { counted_in result ≡ leaned_of text.now (length table.old) (length out.old) }
+    ensures table { table.new ≡ rows_after (counted_in result) text.now table.old }
+    ensures out { out.new ≡ out_after (counted_in result) (text_of text.now (rows_in text.now)) out.old }
 {
-    match text::measure(text) {
-        Measured::Refused(number) => Counted::Refused(number),
-        Measured::Are { rows, bytes } => {
-            if table.len() < 3 * rows {
-                return Counted::Refused(19);
-            }
-            if out.len() < bytes {
-                return Counted::Refused(17);
-            }
-            text::read(text, table);
-            write(&table[0..3 * rows], text, out)
-        }
+    let room = text::measure(text)?;
+    if table.len() < 3 * room.rows {
+        return Err(Refusal::ShortTable);
     }
+    if out.len() < room.bytes {
+        return Err(Refusal::ShortOutput);
+    }
+    text::read(text, table)?;
+    write(&table[..3 * room.rows], text, out)
 }

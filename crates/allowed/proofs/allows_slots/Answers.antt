@@ -1,30 +1,22 @@
 -- The invariant: each of the first i slots is allowed. One that is not allowed is enough against the table.
-use mathlib.Core.Path.{◌≡◌, refl, sym, ◌∙◌}
-use native.Mathlib.Omega.{arith}
-use borrow.Author.Rules.{rules}
+use Rattle.std.proofs.Common.{◌≡◌, refl, sym, arith}
 use Rattle.allowed.specs.Slots.{allows_first, allows_slots}
 use Rattle.allowed.proofs.Slots.{allows_more, allows_fails}
 use Rattle.allowed.proofs.allows_slots.Goals as goal
 
 pub loop-i-init : goal.loop-i-init
 unfolding allows_first
-loop-i-init c = (search rules, refl)
+loop-i-init c = refl
+
+pub returns-then-not-allows_slot : goal.returns-then-not-allows_slot
+unfolding allows_slots
+returns-then-not-allows_slot c = sym (allows_fails c.args.slots 32 c.loop-i.i (omega arith) cc)
 
 pub loop-i-preserved : goal.loop-i-preserved
-loop-i-preserved c =
-    let l = c in (
-      search rules,
-      allows_more l.args.slots l.loop-i.i l.loop-i.invariant.1 (sym c.allows_slot.ensures ∙ c.if-allows_slot.true),
-    )
-
-pub returns-else-allows_slot : goal.returns-else-allows_slot
-unfolding allows_slots
-returns-else-allows_slot c =
-    let l = c in
-    sym (allows_fails l.args.slots 32 l.loop-i.i (omega arith) (sym c.allows_slot.ensures ∙ c.if-allows_slot.false))
+loop-i-preserved c = allows_more c.args.slots c.loop-i.i c.loop-i.invariant cc
 
 pub returns : goal.returns
 unfolding allows_slots
 returns c =
     let e : c.loop-i.i ≡ 32 = omega arith in
-    sym (rw e at c.loop-i.invariant.1)
+    sym (rw e at c.loop-i.invariant)

@@ -1,53 +1,28 @@
 -- The M line is first; behind it each arm is the definition's case of what the fresh text reader is.
-use Rattle.std.proofs.Common.{◌≡◌, true, false, sym, ◌∙◌}
-use Rattle.reader.specs.declared.Answer.{Answer}
-use Rattle.reader.specs.declared.Answer.TheVariants.{More, Complete, Refusal}
-use Rattle.lines.specs.declared.Line.TheVariants.{Nothing, Message}
-use Rattle.capture.specs.Capture.{behind, by_answer, refused_by, is_data, header_came}
-use Rattle.capture.proofs.Answered.{data_as, other_as, fresh_answer}
+use Rattle.std.proofs.Common.{◌≡◌, true, false, refl, sym, ap, ◌∙◌, Some}
+use Rattle.reader.specs.Answer.{answer_in}
+use Rattle.lines.specs.declared.Line.TheVariants.{Message}
+use Rattle.capture.specs.Capture.{behind, refused_by, is_data}
+use Rattle.capture.specs.declared.Told.{Told}
+use Rattle.capture.proofs.Answered.{data_as, other_as, fresh_answer, taken_as}
 use Rattle.capture.proofs.header_came.Goals as goal
 
--- a header of data came, and this is what the fresh reader answers
-came : (c : goal.After-told_of) (a : Answer) → c.status_of-answer.result ≡ a
-    → header_came c.args.l c.args.h c.args.n
-    ≡ behind (Message c.args.h c.args.n) (by_answer a Nothing c.with_text-t.result)
-came c a e =
-    let d : is_data c.args.h ≡ true = sym c.is_data.ensures ∙ c.if-is_data.true in
-    let fresh = c.fresh_reader-fresh.ensures in
-    data_as _ _ _ _ _ _ a d fresh c.with_text-t.ensures (fresh_answer _ _ _ fresh c.status_of-answer.ensures) e
+pub returns-then-not-is_data : goal.returns-then-not-is_data
+returns-then-not-is_data c =
+    let d : is_data c.args.h ≡ false = sym c.is_data.ensures ∙ c.if-not-is_data.true in
+    c.told_of.ensures ∙ sym (other_as _ _ _ _ d refl)
 
--- a header of data came, and this is what the fresh reader answers
-came_2 : (c : goal.After-told_of-in-Complete) (a : Answer) → c.status_of-answer.result ≡ a
-    → header_came c.args.l c.args.h c.args.n
-    ≡ behind (Message c.args.h c.args.n) (by_answer a Nothing c.with_text-t.result)
-came_2 c a e =
-    let d : is_data c.args.h ≡ true = sym c.is_data.ensures ∙ c.if-is_data.true in
-    let fresh = c.fresh_reader-fresh.ensures in
-    data_as _ _ _ _ _ _ a d fresh c.with_text-t.ensures (fresh_answer _ _ _ fresh c.status_of-answer.ensures) e
+pub returns-in-Ok : goal.returns-in-Ok
+returns-in-Ok c =
+    let d : is_data c.args.h ≡ true = sym c.is_data.ensures ∙ c.if-not-is_data.false in
+    let fresh = c.fresh_reader-text.ensures in
+    let came = data_as _ _ c.args.n _ _ _ _ d fresh refl (fresh_answer c.args.n _ _ fresh c.status_of.ensures) (ap answer_in c.in-Ok.is) in
+    c.told_of-in-Ok.ensures ∙ sym (came ∙ ap (λ (t : Told). behind (Some (Message c.args.h c.args.n)) t) (taken_as c.in-Ok.field-0 _ _))
 
--- a header of data came, and this is what the fresh reader answers
-came_3 : (c : goal.After-told_of-in-Refusal) (a : Answer) → c.status_of-answer.result ≡ a
-    → header_came c.args.l c.args.h c.args.n
-    ≡ behind (Message c.args.h c.args.n) (by_answer a Nothing c.with_text-t.result)
-came_3 c a e =
-    let d : is_data c.args.h ≡ true = sym c.is_data.ensures ∙ c.if-is_data.true in
-    let fresh = c.fresh_reader-fresh.ensures in
-    data_as _ _ _ _ _ _ a d fresh c.with_text-t.ensures (fresh_answer _ _ _ fresh c.status_of-answer.ensures) e
-
-pub returns-in-More : goal.returns-in-More
-returns-in-More c = c.told_of.ensures ∙ sym (came c More c.in-More.is)
-
-pub returns-in-Complete : goal.returns-in-Complete
-returns-in-Complete c = c.told_of-in-Complete.ensures ∙ sym (came_2 c Complete c.in-Complete.is)
-
-pub returns-in-Refusal : goal.returns-in-Refusal
+pub returns-in-Err : goal.returns-in-Err
 unfolding refused_by
-returns-in-Refusal c =
-    rw (c.told_of-in-Refusal.ensures, c.stop.ensures)
-    (sym (came_3 c (Refusal _) c.in-Refusal.is))
-
-pub returns-else-is_data : goal.returns-else-is_data
-returns-else-is_data c =
-    let h = c.args.h in
-    let d : is_data h ≡ false = sym c.is_data.ensures ∙ c.if-is_data.false in
-    c.told_of-else-is_data.ensures ∙ sym (other_as _ _ _ _ d c.with_text.ensures)
+returns-in-Err c =
+    let d : is_data c.args.h ≡ true = sym c.is_data.ensures ∙ c.if-not-is_data.false in
+    let fresh = c.fresh_reader-text.ensures in
+    let came = data_as _ _ c.args.n _ _ _ _ d fresh refl (fresh_answer c.args.n _ _ fresh c.status_of.ensures) (ap answer_in c.in-Err.is) in
+    rw (c.told_of-in-Err.ensures, c.stop.ensures, c.from.ensures) (sym came)

@@ -1,23 +1,22 @@
--- Each arm is the definition's case of what the frame reader answered to no byte.
-use Rattle.std.proofs.Common.{◌≡◌, sym, ◌∙◌}
-use Rattle.capture.specs.Capture.{one_more, with_frames}
-use Rattle.capture.proofs.Answered.{settled_as}
+-- Only a frame's end changes anything.
+use Rattle.std.proofs.Common.{sym, ap, ◌∙◌}
+use Rattle.frames.specs.Event.{event_in, event_of, fed_in}
+use Rattle.capture.specs.Capture.{with_frames}
+use Rattle.capture.proofs.Answered.{settled_as, unsettled}
 use Rattle.capture.proofs.settle.Goals as goal
-
-pub returns-in-More : goal.returns-in-More
-returns-in-More c = sym (settled_as _ 0 _ _ c.feed-f.ensures c.in-More.is)
-
-pub returns-in-Header : goal.returns-in-Header
-returns-in-Header c = sym (settled_as _ 0 _ _ c.feed-f.ensures c.in-Header.is)
-
-pub returns-in-Text : goal.returns-in-Text
-returns-in-Text c = sym (settled_as _ 0 _ _ c.feed-f.ensures c.in-Text.is)
 
 pub returns-in-End : goal.returns-in-End
 returns-in-End c =
     let l = c.args.l in
-    let w : c.with_frames.result ≡ with_frames l c.feed-f.result.reader (one_more l.count) l.bytes = rw c.one_more.ensures at c.with_frames.ensures in
-    w ∙ sym (settled_as _ 0 _ _ c.feed-f.ensures c.in-End.is)
+    let f = c.feed-fed.result in
+    let e = ap event_in c.in-Ok.is ∙ ap event_of c.in-End.is in
+    ap (λ n. with_frames l f.reader n l.bytes) c.one_more.ensures ∙ sym (settled_as l 0 (fed_in f) _ c.feed-fed.ensures e)
 
-pub returns-in-Refusal : goal.returns-in-Refusal
-returns-in-Refusal c = sym (settled_as _ 0 _ _ c.feed-f.ensures c.in-Refusal.is)
+pub returns-in_default : goal.returns-in_default
+returns-in_default c =
+    let f = c.feed-fed.result in
+    let e = settled_as c.args.l 0 (fed_in f) _ c.feed-fed.ensures (ap event_in c.in-Ok.is) in
+    sym (e ∙ unsettled c.in-Ok.event c.args.l f.reader c.in_default.not-End)
+
+pub returns-in-Err : goal.returns-in-Err
+returns-in-Err c = sym (settled_as c.args.l 0 (fed_in c.feed-fed.result) _ c.feed-fed.ensures (ap event_in c.in-Err.is))

@@ -1,43 +1,30 @@
--- The place and then the number decide, as in the definition; a refusal stores nothing.
-use mathlib.Core.Path.{◌≡◌, refl, sym, ◌∙◌}
+-- The place lies inside the content; the part that was lent and written is a run of stores into the whole.
+use Prim.Native.Nat.{ℕ, ◌+◌, ◌-◌}
+use mathlib.Core.Path.{◌≡◌, sym, ap, ◌∙◌}
+use native.Mathlib.Omega.{arith}
 use lib.ListN.{length}
-use Rattle.element.specs.Element.{place_of, raw_of, set_of}
-use Rattle.element.specs.declared.Place.TheVariants as P
-use Rattle.element.specs.declared.Raw.TheVariants as R
-use Rattle.element.proofs.Places.{placed}
+use lib.Seq.{sets}
+use Rattle.wire.specs.Number.{bytes_of}
+use Rattle.wire.proofs.Numbers.{length_bytes}
+use Rattle.wire.proofs.Stores.{part_sets}
+use Rattle.element.specs.Element.{set_of}
+use Rattle.element.proofs.Places.{placed, part_length}
 use Rattle.element.proofs.set.Goals as goal
 
-pub put_at-requires : goal.put_at-requires
-put_at-requires c =
-    let d = c in
-    let b = d in
-    let a = b.args in
-    (placed a.code (length a.content.now) a.i _ _ (sym b.place_of.ensures ∙ d.in-At.is)).inside
+pub overflow_add-place : goal.overflow_add-place
+overflow_add-place c = omega (arith, (placed _ _ _ _ _ (sym c.in_ok-place.ensures)).inside)
 
-pub returns-in-Refused : goal.returns-in-Refused
-unfolding set_of
-returns-in-Refused c =
-    let b = c in
-    let e : place_of _ _ _ ≡ P.Refused c.in-Refused.number = sym b.place_of.ensures ∙ c.in-Refused.is in
-    rw e (refl, refl)
+pub slice_bounds-put-end : goal.slice_bounds-put-end
+slice_bounds-put-end c = (placed _ _ _ _ _ (sym c.in_ok-place.ensures)).inside
 
-pub returns-in-Refused-raw_of : goal.returns-in-Refused-raw_of
+pub returns-clause-content : goal.returns-clause-content
 unfolding set_of
-returns-in-Refused-raw_of c =
-    let r = c in
-    let d = r in
-    let b = d in
-    let e : place_of _ _ _ ≡ P.At d.in-At.at d.in-At.width = sym b.place_of.ensures ∙ d.in-At.is in
-    let f : raw_of _ _ _ ≡ R.Refused c.in-Refused-raw_of.number = sym r.raw_of.ensures ∙ c.in-Refused-raw_of.is in
-    rw (e, f) (refl, refl)
-
-pub returns-in-Is : goal.returns-in-Is
-unfolding set_of
-returns-in-Is c =
-    let n = c in
-    let r = n in
-    let d = r in
-    let b = d in
-    let e : place_of _ _ _ ≡ P.At d.in-At.at d.in-At.width = sym b.place_of.ensures ∙ d.in-At.is in
-    let f : raw_of _ _ _ ≡ R.Is n.in-Is.n = sym r.raw_of.ensures ∙ n.in-Is.is in
-    rw (e, f) (refl, c.put_at.ensures)
+returns-clause-content c =
+    let s = c.args.content.now in
+    let at = c.in_ok-place.place.at in
+    let w = c.in_ok-place.place.width in
+    let p = placed _ _ _ at w (sym c.in_ok-place.ensures) in
+    let n = part_length s at w (at + w - at) (omega arith) p.inside in
+    let written : c.put.new.s ≡ bytes_of w c.in_ok-n.n = c.put.ensures ∙ ap (λ (k : ℕ). bytes_of k c.in_ok-n.n) n in
+    let long : length c.put.new.s ≡ at + w - at = omega (arith, ap length written, length_bytes w c.in_ok-n.n) in
+    rw (← c.in_ok-place.ensures, ← c.in_ok-n.ensures) (part_sets s c.put.new.s at (at + w - at) long (omega (arith, p.inside)) ∙ ap (sets s at) written)

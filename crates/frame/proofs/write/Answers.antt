@@ -1,18 +1,21 @@
 -- Each refusal is the definition's, before anything is stored; else the length, the header and the text are stored one behind the other.
-use Prim.Native.Nat.{ℕ, ◌+◌, ◌-◌, ◌≤◌}
+use Prim.Native.Nat.{ℕ, ◌+◌, ◌-◌, ◌≤◌, ◌<◌}
+use mathlib.Core.Bool.{Bool, true, false, cond}
+use lib.Dec.{eqb}
+use Rattle.std.proofs.lemmas.Result.{err_from_is_err_and}
+use Rattle.refusal.proofs.Once.{some_number}
 use mathlib.Core.Path.{◌≡◌, refl, sym, ap, ◌∙◌}
 use mathlib.Core.List.{List, ◌++◌}
 use native.Mathlib.Omega.{arith}
-use borrow.Author.Tests.{eq-eqb, ne_eqb, le-leb, lt-leb}
-use lib.ListN.{length, take, drop, length-take, length-drop, length-append}
+use borrow.Author.Tests.{le-leb, lt-leb}
+use lib.ListN.{length, take, drop, length-append}
 use lib.Seq.{sets, length-sets, length-take-le}
 use Rattle.wire.specs.Number.{bytes_of}
-use Rattle.wire.specs.Lent.{copied}
 use Rattle.wire.proofs.Numbers.{length_bytes}
-use Rattle.wire.proofs.Stores.{part_sets, copied_all}
+use Rattle.wire.proofs.Stores.{part_sets}
 use Rattle.frame.specs.declared.Header.{Header}
 use Rattle.frame.specs.Header.{header_bytes}
-use Rattle.frame.specs.Frame.{frame_of, written_of}
+use Rattle.frame.specs.Frame.{frame_of, written_of, kind_number}
 use Rattle.frame.proofs.Laws.{bytes_length}
 use Rattle.frame.proofs.Runs.{three_runs}
 use Rattle.frame.proofs.write.Goals as goal
@@ -43,49 +46,52 @@ ended o x y z size a b e h =
 put : (o x y z text : List ℕ) (h : Header) (size : ℕ) → size ≡ 14 + length text → size ≤ length o
     → x ≡ bytes_of (length (take 4 o)) (10 + length text)
     → y ≡ header_bytes h
-    → z ≡ copied (take (size - 14) (drop 14 (begun o x y))) text
+    → z ≡ text
     → take 14 (begun o x y) ++ (z ++ drop (size - 14) (drop 14 (begun o x y))) ≡ frame_of h text ++ drop size o
 unfolding frame_of
-put o x y z text h size e r p q t =
+put o x y z text h size e r p q last =
     let n = 10 + length text in
     let four : length (take 4 o) ≡ 4 = length-take-le 4 o (omega (arith, e, r)) in
     let first : x ≡ bytes_of 4 n = p ∙ ap (λ (j : ℕ). bytes_of j n) four in
     let a : length x ≡ 4 = ap length first ∙ length_bytes 4 n in
     let b : length y ≡ 10 = ap length q ∙ bytes_length h in
-    let l = begun_length o x y a b (omega (arith, e, r)) in
-    let room : length (take (size - 14) (drop 14 (begun o x y))) ≡ length text = simp (length-take, length-drop) (omega (arith, l, r, e)) in
-    let last : z ≡ text = t ∙ copied_all (take (size - 14) (drop 14 (begun o x y))) text room in
     let w : x ++ (y ++ z) ≡ bytes_of 4 n ++ (header_bytes h ++ text) = rw (first, q, last) in
     ended o x y z size a b (e ∙ ap (λ (s : List ℕ). 14 + length s) (sym last)) r ∙ ap (λ (s : List ℕ). s ++ drop size o) w
+
+-- a kind that is not in order is 12
+twelve : (stype n k : ℕ) → k ≡ kind_number stype n → 0 < k → (kind_number stype n ≡ 12) × (k ≡ 12)
+unfolding kind_number
+twelve stype n k e h = go (eqb stype 0) (eqb n 10) e
+  where
+    go : (a b : Bool) → k ≡ cond a 0 (cond b 0 12) → ◌≡◌ {A = ℕ} (cond a 0 (cond b 0 12)) 12 × (k ≡ 12)
+    go true b e = absurd (omega arith)
+    go false true e = absurd (omega arith)
+    go false false e = (refl, e)
 
 pub returns-then-text-gt-LONGEST : goal.returns-then-text-gt-LONGEST
 unfolding written_of
 returns-then-text-gt-LONGEST c = (rw (lt-leb _ _ c.if-text-gt-LONGEST.true), refl)
 
-pub returns-then-kind_number-ne0 : goal.returns-then-kind_number-ne0
+pub returns-in_err-judge_kind : goal.returns-in_err-judge_kind
 unfolding written_of
-returns-then-kind_number-ne0 c = (rw (le-leb _ _ c.if-text-gt-LONGEST.false, ← c.kind_number.ensures, ne_eqb _ _ c.if-kind_number-ne0.true), refl)
+returns-in_err-judge_kind c =
+    let p = err_from_is_err_and c.from_residual.result c.from_residual.ensures.1 in
+    let (q, t) = twelve c.args.h.stype (10 + length c.args.text.now) _ c.in_err-judge_kind.ensures (some_number _) in
+    rw (p.1, p.2, le-leb _ _ c.if-text-gt-LONGEST.false, q, t) (refl, refl)
 
 pub returns-then-out-size : goal.returns-then-out-size
 unfolding written_of
 returns-then-out-size c =
-    let k = c in
-    let a = k.args in
-    let z = sym k.kind_number.ensures ∙ c.if-kind_number-ne0.false in
-    (rw (le-leb _ _ k.if-text-gt-LONGEST.false, eq-eqb _ _ z, lt-leb (14 + length a.text.now) (length a.out.now) (omega (arith, c.if-out-size.true))), refl)
+    let short = lt-leb (14 + length c.args.text.now) (length c.args.out.now) (omega (arith, c.if-out-size.true)) in
+    (rw (le-leb _ _ c.if-text-gt-LONGEST.false, ← c.in_ok-judge_kind.ensures, short), refl)
 
 pub returns : goal.returns
 unfolding written_of
 returns c =
-    let f = c in
-    let g = f in
-    let d = g in
-    let k = d in
-    let a = d.args in
-    let z = sym k.kind_number.ensures ∙ d.if-kind_number-ne0.false in
+    let a = c.args in
     let size = 4 + (10 + length a.text.now) in
     let e : size ≡ 14 + length a.text.now = omega arith in
-    let r : size ≤ length a.out.now = omega (arith, d.if-out-size.false) in (
-      rw (le-leb _ _ k.if-text-gt-LONGEST.false, eq-eqb _ _ z, ← e, le-leb _ _ r),
-      put a.out.now _ _ _ a.text.now a.h size e r g.put.ensures f.put_header.ensures c.copy.ensures,
+    let r : size ≤ length a.out.now = omega (arith, c.if-out-size.false) in (
+      rw (le-leb _ _ c.if-text-gt-LONGEST.false, ← c.in_ok-judge_kind.ensures, ← e, le-leb _ _ r),
+      put a.out.now _ _ _ a.text.now a.h size e r c.put.ensures (c.copy_from_slice.ensures.after ∙ c.from.ensures) c.copy_from_slice-2.ensures.after,
     )

@@ -1,62 +1,51 @@
--- The bytes of a piece that are left are eaten from the present reader as the whole piece is from the first: a turn is a step of the definition.
-use mathlib.Core.Path.{refl, sym, ap, subst, ◌∙◌}
+-- A turn of the loop is a step of the definition.
+use Prim.Native.Nat.{ℕ}
+use Rattle.std.specs.Prelude.{Option, Ok}
+use Rattle.frame.specs.declared.Header.{Header}
+use mathlib.Core.Path.{◌≡◌, refl, sym, ap, ap₂, ◌∙◌}
 use native.Mathlib.Omega.{arith}
-use Rattle.frames.specs.declared.Event.TheVariants.{More}
+use lib.ListN.{length}
+use Rattle.frames.specs.Event as E
+use Rattle.frames.specs.Event.{Fed, More, fed_in, pushed_in}
 use Rattle.frames.specs.declared.FrameReader.{FrameReader}
 use Rattle.frames.proofs.Held.{bytes_in}
-use Rattle.frames.proofs.Eats.{Over, Turned, turned, eat_end}
+use Rattle.frames.proofs.Eats.{turned, eat_end}
 use Rattle.frames.proofs.eat_head.Goals as goal
 
-turn : (c : goal.In-Head)
-    → Turned c.args.piece.now (bytes_in c.args.r) c.loop-i.i c.push-f.result
-turn c =
-    let l = c.loop-i in
-    turned _ _ l.state l.i _ (omega arith) l.invariant.1 l.invariant.2 c.push-f.ensures
+header_more : {h : Header} {n : ℕ} → E.Header h n ≡ E.More → ⊥
+header_more e = absurd (cc)
 
-turn_2 : (c : goal.In-Text)
-    → Turned c.args.piece.now (bytes_in c.args.r) c.loop-i.i c.push-f.result
-turn_2 c =
-    let l = c.loop-i in
-    turned _ _ l.state l.i _ (omega arith) l.invariant.1 l.invariant.2 c.push-f.ensures
-
-turn_3 : (c : goal.In-Refused)
-    → Turned c.args.piece.now (bytes_in c.args.r) c.loop-i.i c.push-f.result
-turn_3 c =
-    let l = c.loop-i in
-    turned _ _ l.state l.i _ (omega arith) l.invariant.1 l.invariant.2 c.push-f.ensures
-
-pub loop-i-init : goal.loop-i-init
-loop-i-init c = (omega arith, c.requires, refl)
-
-pub bounds-piece-i : goal.bounds-piece-i
-bounds-piece-i c = omega arith
-
-pub push-f-requires : goal.push-f-requires
-push-f-requires c = c.loop-i.invariant.1
-
-pub overflow_add-i : goal.overflow_add-i
-overflow_add-i c = omega arith
-
-pub loop-i-smaller : goal.loop-i-smaller
-loop-i-smaller c = omega arith
+refused_more : {n : ℕ} → E.Refusal n ≡ E.More → ⊥
+refused_more e = absurd (cc)
 
 pub loop-i-preserved : goal.loop-i-preserved
 loop-i-preserved c =
-    let t = turn c in
-    (omega arith, t.held c.in-Head.is, t.again c.in-Head.is)
+    let l = c.loop-i in
+    let w = c.in-Ok-default-None in
+    let is = ap pushed_in (w.is ∙ ap (λ (o : Option (Header × ℕ)). Ok (w.reader, o)) w.field-0-1-is) in
+    let t = turned _ _ l.state l.i _ (omega arith) l.invariant.0 l.invariant.1 (sym is ∙ c.push.ensures) in
+    (t.held refl, t.again refl)
 
-pub returns-in-Text : goal.returns-in-Text
-returns-in-Text c =
-    let t = turn_2 c in
-    sym (t.over (subst Over (sym c.in-Text.is) tt))
+pub returns-in-Ok-default-Some : goal.returns-in-Ok-default-Some
+returns-in-Ok-default-Some c =
+    let l = c.loop-i in
+    let w = c.in-Ok-default-Some in
+    let is = ap pushed_in (w.is ∙ ap (λ (o : Option (Header × ℕ)). Ok (w.reader, o)) w.field-0-1-is) in
+    let t = turned _ _ l.state l.i _ (omega arith) l.invariant.0 l.invariant.1 (sym is ∙ c.push.ensures) in
+    sym (t.over header_more)
 
-pub returns-in-Refused : goal.returns-in-Refused
-returns-in-Refused c =
-    let t = turn_3 c in
-    sym (t.over (subst Over (sym c.in-Refused.is) tt))
+pub returns-in-Err : goal.returns-in-Err
+returns-in-Err c =
+    let l = c.loop-i in
+    let t = turned _ _ l.state l.i _ (omega arith) l.invariant.0 l.invariant.1 c.in-Err.ensures in
+    c.refused.ensures ∙ sym (t.over refused_more)
 
 pub returns : goal.returns
 returns c =
     let l = c.loop-i in
     let p = c.args.piece.now in
-    sym (l.invariant.2 ∙ eat_end (bytes_in l.state) l.i l.i p (omega arith) ∙ ap (λ (r : FrameReader). record { event = More; consumed = l.i; reader = r }) (sym l.invariant.1.is))
+    let e : l.i ≡ length p = omega arith in
+    sym
+    (l.invariant.1
+    ∙ eat_end (bytes_in l.state) l.i l.i p (omega arith)
+    ∙ ap₂ (λ (k : ℕ) (r : FrameReader). record { event = More; consumed = k; reader = r }) e (sym l.invariant.0.is))

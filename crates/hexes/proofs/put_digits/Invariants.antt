@@ -1,5 +1,5 @@
 -- What was stored, with the digits still to come stored behind it, stays what all digits stored give.
-use Prim.Native.Nat.{◌*◌, ◌-◌, ◌≤◌}
+use Prim.Native.Nat.{◌*◌}
 use mathlib.Core.Path.{◌≡◌}
 use lib.ListN.{length, drop}
 use lib.Seq.{sets}
@@ -7,8 +7,7 @@ use Rattle.hexes.specs.Hex.{hex_of}
 use Rattle.hexes.proofs.put_digits.Given as goal
 
 abbrev pub invariant-loop-i : goal.invariant-loop-i
-invariant-loop-i l =
-    (length l.out ≡ length l.initial.out) × (l.i ≤ length l.s) × (sets l.out (2 * l.i) (hex_of (drop l.i l.s)) ≡ sets l.initial.out 0 (hex_of l.s))
-
-abbrev pub decreases-loop-i : goal.decreases-loop-i
-decreases-loop-i l = length l.s - l.i
+invariant-loop-i l = record {
+  kept : length l.out ≡ length l.initial.out;
+  stored : sets l.out (2 * l.i) (hex_of (drop l.i l.s)) ≡ sets l.initial.out 0 (hex_of l.s);
+}

@@ -7,9 +7,9 @@ use Rattle.listing.proofs.Runs.{Joined}
 use Rattle.listing.proofs.list.Given as goal
 
 abbrev pub invariant-loop-i : goal.invariant-loop-i
-invariant-loop-i l =
-    (length l.out ≡ length l.initial.out) × (l.i ≤ length l.piece) × (l.at ≤ length l.initial.out)
-    × Joined (run l.initial.state (length l.initial.out) l.piece) l.initial.out (run l.state (length l.initial.out - l.at) (drop l.i l.piece)) l.out l.i l.at
-
-abbrev pub decreases-loop-i : goal.decreases-loop-i
-decreases-loop-i l = length l.piece - l.i
+invariant-loop-i l = record {
+  kept : length l.out ≡ length l.initial.out;
+  within : l.at ≤ length l.initial.out;
+  joined : Joined (run l.initial.state (length l.initial.out) l.piece) l.initial.out
+      (run l.state (length l.initial.out - l.at) (drop l.i l.piece)) l.out l.i l.at;
+}

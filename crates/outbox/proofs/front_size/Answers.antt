@@ -1,40 +1,41 @@
--- A frame that append takes is no longer than the bytes, and the part that is asked for is the front.
-use Prim.Native.Nat.{ℕ, ◌+◌, ◌-◌}
-use mathlib.Core.Path.{◌≡◌, sym, ap, ◌∙◌}
-use native.Mathlib.Omega.{arith}
-use borrow.Author.Tests.{eq-eqb, ne_eqb}
-use lib.ListN.{take}
+-- A frame that append takes is no longer than the bytes, and the part that is judged is the front.
+use Rattle.std.proofs.Common.{◌≡◌, ℕ, ◌+◌, ◌<◌, true, false, List, length, take, Some, None, Result, is_ok, sym, ap, ◌∙◌, arith}
+use borrow.Author.Tests.{eqb-true, eqb-false, eq-eqb, ne_eqb}
+use Rattle.refusal.specs.Answer.{number_in}
+use Rattle.refusal.specs.declared.Refusal.{Refusal}
 use Rattle.frame.specs.Frame.{length_in}
-use Rattle.outbox.specs.Outbox.{frame_number, front, front_size}
+use Rattle.frame.proofs.Judged.{ok_number}
+use Rattle.outbox.specs.Outbox.{frame_number, front, front_size, size_there}
 use Rattle.outbox.proofs.Fronts.{no_front}
 use Rattle.outbox.proofs.front_size.Goals as goal
+use Rattle.outbox.proofs.front_size.Goals.{else-size-s-via-then-size-s+else-is_ok, else-size-s-via-else-size-s}
 
--- the front's number
-asked : (c : goal.Then-frame_number-eq0) → c.frame_number.result ≡ frame_number (front c.args.s.now)
-asked c =
-    let n = c in
-    let s = n.args.s.now in
-    let z : 4 + n.length_in-size.result - 0 ≡ 4 + length_in s = omega (arith, n.length_in-size.ensures.0) in
-    c.frame_number.ensures ∙ ap (λ (k : ℕ). frame_number (take k s)) z
-
--- the front's number
-asked_2 : (c : goal.Else-frame_number-eq0) → c.frame_number.result ≡ frame_number (front c.args.s.now)
-asked_2 c =
-    let n = c in
-    let s = n.args.s.now in
-    let z : 4 + n.length_in-size.result - 0 ≡ 4 + length_in s = omega (arith, n.length_in-size.ensures.0) in
-    c.frame_number.ensures ∙ ap (λ (k : ℕ). frame_number (take k s)) z
-
-pub returns-then-s-lt4 : goal.returns-then-s-lt4
-returns-then-s-lt4 c = sym (no_front _ (omega arith))
-
-pub returns-then-s-size : goal.returns-then-s-size
-returns-then-s-size c = sym (no_front _ (omega (arith, c.if-s-size.true, c.length_in-size.ensures.0)))
-
-pub returns-then-frame_number-eq0 : goal.returns-then-frame_number-eq0
+-- the front is judged by r
+taken : (s : List ℕ) (n : ℕ) (r : Result Unit Refusal) → n ≡ length_in s → number_in r ≡ frame_number (take (4 + n) s) → is_ok r ≡ true
+    → Some (4 + n) ≡ size_there (front_size s)
 unfolding front_size
-returns-then-frame_number-eq0 c = rw (← asked c, eq-eqb _ _ c.if-frame_number-eq0.true) (ap (λ (k : ℕ). 4 + k) c.length_in-size.ensures.0)
+taken s n r e f o =
+    let z : frame_number (front s) ≡ 0 = ap (λ (k : ℕ). frame_number (take (4 + k) s)) (sym e) ∙ sym f ∙ eqb-true (number_in r) 0 (sym (ok_number r) ∙ o) in
+    rw (eq-eqb _ _ z, ← e, ne_eqb (4 + n) 0 (λ q. omega (arith, q)))
 
-pub returns-else-frame_number-eq0 : goal.returns-else-frame_number-eq0
+refused : (s : List ℕ) (n : ℕ) (r : Result Unit Refusal) → n ≡ length_in s → number_in r ≡ frame_number (take (4 + n) s) → is_ok r ≡ false
+    → None ≡ size_there (front_size s)
 unfolding front_size
-returns-else-frame_number-eq0 c = rw (← asked_2 c, ne_eqb _ _ c.if-frame_number-eq0.false)
+refused s n r e f o =
+    let z = λ (q : frame_number (front s) ≡ 0). eqb-false (number_in r) 0 (sym (ok_number r) ∙ o) (f ∙ ap (λ (k : ℕ). frame_number (take (4 + k) s)) e ∙ q) in
+    rw (ne_eqb _ _ z)
+
+too_short : (s : List ℕ) (n : ℕ) → n ≡ length_in s → length s < 4 + n → None ≡ size_there (front_size s)
+too_short s n e h = rw (no_front s (omega arith))
+
+pub returns-then-is_ok : goal.returns-then-is_ok
+returns-then-is_ok c =
+    taken c.args.s.now _ c.judge_frame.result c.length_in-size.ensures.0 c.judge_frame.ensures (sym c.is_ok.ensures.value ∙ c.if-is_ok.true)
+
+pub returns-else-size-s : goal.returns-else-size-s
+returns-else-size-s c =
+    elim c.else-size-s.branch [
+      | else-size-s-via-then-size-s+else-is_ok w ↦
+          refused c.args.s.now _ w.judge_frame.result c.length_in-size.ensures.0 w.judge_frame.ensures (sym w.is_ok.ensures.value ∙ w.if-is_ok.false)
+      | else-size-s-via-else-size-s w ↦ too_short c.args.s.now _ c.length_in-size.ensures.0 (omega arith)
+    ]

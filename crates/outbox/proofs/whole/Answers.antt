@@ -1,71 +1,57 @@
--- What is left is whole frames just where all is: a frame more is passed over, and at the end nothing is left.
-use Prim.Native.Nat.{ℕ, ◌+◌, ◌-◌, ◌≤◌, ◌<◌}
-use mathlib.Core.Path.{◌≡◌, refl, sym, ap, ◌∙◌}
-use mathlib.Core.List.{List}
-use native.Mathlib.Omega.{arith}
-use lib.ListN.{length, drop, length-drop, drop_of_length-le}
-use lib.Seq.{take_all, drop-drop}
-use Rattle.outbox.specs.Outbox.{front_size, whole_from}
+-- A frame more is passed over, and where none stands next, all is whole frames just where nothing is left.
+use Rattle.std.proofs.Common.{◌≡◌, ℕ, ◌-◌, ◌≤◌, ◌<◌, Bool, true, false, cond, eqb}
+use Rattle.std.proofs.Common.{List, [], ◌∷◌, length, take, drop, Option, Some, None, refl, sym, ap, ◌∙◌, arith}
+use Rattle.std.proofs.lemmas.List.{take_rest}
+use lib.ListN.{length-drop}
+use borrow.Author.Tests.{eqb-true, eqb-false, ne_eqb}
+use Rattle.outbox.specs.Outbox.{front_size, size_there, whole_from}
 use Rattle.outbox.proofs.Fronts.{sized, not_whole}
 use Rattle.outbox.proofs.whole.Goals as goal
 
--- a turn passes over it
-record Turn (s : List ℕ) (at size : ℕ) : Type 0 where
-  some : 0 < size
-  within : at + size ≤ length s
-  whole : whole_from 0 (drop (at + size) s) ≡ whole_from 0 (drop at s)
+-- a frame of n bytes stands at the front
+record Turn (s : List ℕ) (n : ℕ) : Type 0 where
+  within : n ≤ length s
+  smaller : length (take (length s - n) (drop n s)) < length s
+  whole : whole_from 0 (take (length s - n) (drop n s)) ≡ whole_from 0 s
 
-turn : (s : List ℕ) (at size : ℕ) → at ≤ length s → size ≡ front_size (drop at s) → (size ≡ 0 → ⊥) → Turn s at size
-turn s at size h e n =
-    let f = sized (drop at s) (λ z. n (e ∙ z)) in
-    let is = e ∙ f.size in
-    record {
-      some = omega arith;
-      within = omega (arith, is, f.within, length-drop at s);
-      whole = ap (whole_from 0) (sym (drop-drop size at s)) ∙ ap (λ (k : ℕ). whole_from 0 (drop k (drop at s))) is ∙ sym f.on;
-    }
+turn : (s : List ℕ) (n : ℕ) → Some n ≡ size_there (front_size s) → Turn s n
+turn s n e = go (eqb (front_size s) 0) refl e
+  where
+    go : (b : Bool) → eqb (front_size s) 0 ≡ b → ◌≡◌ {A = Option ℕ} (Some n) (cond b None (Some (front_size s))) → Turn s n
+    go true p q = absurd (cc)
+    go false p q =
+        let f = sized s (eqb-false (front_size s) 0 p) in
+        let is : n ≡ front_size s = cc in
+        let size = is ∙ f.size in
+        record {
+          within = omega (arith, size, f.within);
+          smaller = rw (take_rest s n, length-drop n s) (omega (arith, size, f.within));
+          whole = ap (whole_from 0) (take_rest s n) ∙ ap (λ (k : ℕ). whole_from 0 (drop k s)) size ∙ sym f.on;
+        }
 
--- the size of the frame that stands next
-next_size : (c : goal.Then-size-eq0)
-    → c.front_size-size.result ≡ front_size (drop c.loop-at.at c.args.s.now)
-next_size c =
-    let at = c.loop-at.at in
-    let s = c.args.s.now in
-    c.front_size-size.ensures ∙ ap front_size (take_all (length s - at) (drop at s) (omega (arith, length-drop at s)))
+none : (s : List ℕ) → None ≡ size_there (front_size s) → front_size s ≡ 0
+none s e = go (eqb (front_size s) 0) refl e
+  where
+    go : (b : Bool) → eqb (front_size s) 0 ≡ b → ◌≡◌ {A = Option ℕ} None (cond b None (Some (front_size s))) → front_size s ≡ 0
+    go true p q = eqb-true (front_size s) 0 p
+    go false p q = absurd (cc)
 
--- the size of the frame that stands next
-next_size_2 : (c : goal.Else-size-eq0)
-    → c.front_size-size.result ≡ front_size (drop c.loop-at.at c.args.s.now)
-next_size_2 c =
-    let at = c.loop-at.at in
-    let s = c.args.s.now in
-    c.front_size-size.ensures ∙ ap front_size (take_all (length s - at) (drop at s) (omega (arith, length-drop at s)))
+ended : (s : List ℕ) → front_size s ≡ 0 → eqb (length s) 0 ≡ whole_from 0 s
+unfolding whole_from
+ended [] e = refl
+ended (b ∷ s) e = ne_eqb (length (b ∷ s)) 0 (λ z. omega arith) ∙ sym (not_whole (b ∷ s) e (omega arith))
 
-turned : (c : goal.Else-size-eq0)
-    → Turn c.args.s.now c.loop-at.at c.front_size-size.result
-turned c = turn _ _ _ c.loop-at.invariant.0 (next_size_2 c) c.if-size-eq0.false
+pub slice_bounds-rest-count : goal.slice_bounds-rest-count
+slice_bounds-rest-count c = (turn _ _ c.in-Some.ensures).within
 
-pub loop-at-init : goal.loop-at-init
-loop-at-init c = (omega arith, refl)
+pub slice_bounds-rest-start : goal.slice_bounds-rest-start
+slice_bounds-rest-start c = omega (arith, (turn _ _ c.in-Some.ensures).within)
 
-pub returns-then-size-eq0 : goal.returns-then-size-eq0
-returns-then-size-eq0 c =
-    let l = c.loop-at in
-    let s = c.args.s.now in
-    sym (sym l.invariant.1 ∙ not_whole (drop l.at s) (sym (next_size c) ∙ c.if-size-eq0.true) (omega (arith, length-drop l.at s)))
+pub loop-size-smaller : goal.loop-size-smaller
+loop-size-smaller c = (turn _ _ c.in-Some.ensures).smaller
 
-pub overflow_add-at : goal.overflow_add-at
-overflow_add-at c = omega (arith, (turned c).within)
-
-pub loop-at-smaller : goal.loop-at-smaller
-loop-at-smaller c = omega (arith, (turned c).some, (turned c).within)
-
-pub loop-at-preserved : goal.loop-at-preserved
-loop-at-preserved c = ((turned c).within, (turned c).whole ∙ c.loop-at.invariant.1)
+pub loop-size-preserved : goal.loop-size-preserved
+loop-size-preserved c = (turn _ _ c.in-Some.ensures).whole ∙ c.loop-size.invariant
 
 pub returns : goal.returns
-unfolding whole_from
-returns c =
-    let l = c.loop-at in
-    let s = c.args.s.now in
-    ap (whole_from 0) (sym (drop_of_length-le s {i = l.at} (omega arith))) ∙ l.invariant.1
+returns c = c.is_empty.ensures ∙ ended _ (none _ c.in_default.ensures) ∙ c.loop-size.invariant

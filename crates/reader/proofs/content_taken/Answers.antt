@@ -1,36 +1,28 @@
 -- The bytes of a run lead to the state behind the last of them.
-use Prim.Native.Nat.{◌+◌, ◌-◌, ◌<◌}
-use mathlib.Core.Path.{ap, ◌∙◌}
+use Prim.Native.Nat.{◌<◌}
 use native.Mathlib.Omega.{arith}
-use Rattle.levels.specs.Levels.{stack}
-use Rattle.levels.specs.declared.Levels.{Levels}
-use Rattle.reader.specs.State.{reader_of}
-use Rattle.reader.specs.Step.{content_from}
-use Rattle.reader.proofs.Eats.{held}
+use Rattle.reader.proofs.Eats.{held, ready}
 use Rattle.reader.proofs.Turns.{run_turned, content_room}
 use Rattle.reader.proofs.content_taken.Goals as goal
 
-pub overflow_add-r : goal.overflow_add-r
-overflow_add-r c =
-    let m = c in
-    let b = m in
-    let room = content_room b.args.r b.args.code b.args.left b.requires.on b.requires.phase_value in
-    omega (arith, m.content_run-m.ensures.0, room, (held b.args.r b.requires.on).live.bounded)
-
-pub content_from-requires : goal.content_from-requires
-content_from-requires c =
-    let b = c in
-    rw c.levels_in.ensures (held b.args.r b.requires.on).clean
+pub spot_behind-requires : goal.spot_behind-requires
+spot_behind-requires c =
+    let a = c.args in
+    let h = held a.r c.requires.on in
+    let room = content_room a.r a.code a.left c.requires.on c.requires.phase_value in
+    record {
+      within = omega (arith, c.content_run-m.ensures.0, room);
+      bounded = h.live.bounded;
+      clean = h.clean;
+      inside = (ready a.r c.requires.on).spot.inside;
+    }
 
 pub returns : goal.returns
 returns c =
-    let l = c in
-    let m = l in
-    let b = m in
-    let a = b.args in
-    let some : 0 < m.content_run-m.result = omega (arith, l.if-m-eq0.false) in
-    let k = m.content_run-m.result in
-    let to = ap (λ (x : Levels). reader_of (content_from a.r.form a.r.size (a.r.read + k) (stack x) a.code (a.left - k))) l.levels_in.ensures in
-    run_turned a.r a.code a.left a.piece.now a.from k c.content_from.result b.requires.on b.requires.phase_value some
-    m.content_run-m.ensures.0 m.content_run-m.ensures.1 (λ j. omega (arith, m.type_inv.piece j)) m.content_run-m.ensures.2
-    (c.content_from.ensures ∙ to)
+    let a = c.args in
+    let m = c.content_run-m in
+    let s = c.spot_behind.ensures in
+    let some : 0 < m.result = omega (arith, c.if-m-eq0.false) in
+    let is = rw (s.same_form, s.same_size, s.further, s.same_levels) at c.content_from.ensures in
+    run_turned a.r a.code a.left a.piece.now a.from m.result c.content_from.result c.requires.on c.requires.phase_value some
+    m.ensures.0 m.ensures.1 (λ j. omega (arith, c.type_inv.piece j)) m.ensures.2 is

@@ -21,14 +21,14 @@ pub returns-then-n-eq1 : goal.returns-then-n-eq1
 unfolding fresh
 returns-then-n-eq1 c =
     let n = c.args.n in
-    rw (ne_eqb n 0 c.if-n-eq0.false, eq-eqb n 1 c.if-n-eq1.true) c.refusal.ensures
+    rw (ne_eqb n 0 c.if-n-eq0.false, eq-eqb n 1 c.if-n-eq1.true) c.refused.ensures
 
 pub returns-then-n-gt-LONGEST : goal.returns-then-n-gt-LONGEST
 unfolding fresh
 returns-then-n-gt-LONGEST c =
     let n = c.args.n in
     rw (ne_eqb n 0 c.if-n-eq0.false, ne_eqb n 1 c.if-n-eq1.false, lt-ltb longest n c.if-n-gt-LONGEST.true)
-    c.refusal-then-n-gt-LONGEST.ensures
+    c.refused-then-n-gt-LONGEST.ensures
 
 pub returns : goal.returns
 unfolding fresh

@@ -8,7 +8,11 @@ use Rattle.reader.specs.Asked.{On}
 use Rattle.reader.proofs.seek_item.Given as goal
 
 abbrev pub invariant-loop-i : goal.invariant-loop-i
-invariant-loop-i l = (l.i ≤ length l.piece) × On l.state × (seek (state_of l.initial.state) 0 l.piece ≡ seek (state_of l.state) l.i (drop l.i l.piece))
+invariant-loop-i l = record {
+  within : l.i ≤ length l.piece;
+  on : On l.reader;
+  seeks : seek (state_of l.initial.reader) 0 l.piece ≡ seek (state_of l.reader) l.i (drop l.i l.piece);
+}
 
 abbrev pub decreases-loop-i : goal.decreases-loop-i
 decreases-loop-i l = length l.piece - l.i

@@ -1,23 +1,23 @@
 -- The rows and the bytes counted so far, and those of the walk that is left, are those of the whole text.
-use mathlib.Core.Path.{refl, ap, ap₂}
+use Prim.Native.Nat.{◌+◌}
+use mathlib.Core.Path.{refl, ap}
 use native.Mathlib.Omega.{arith}
 use lib.ListN.{length}
 use Rattle.rows.specs.Row.{size_of}
-use Rattle.text.specs.declared.Measured.TheVariants.{Are}
 use Rattle.text.proofs.Turn.{Turn, turn, rows_end}
 use Rattle.text.proofs.measure_good.Goals as goal
 
 -- the turn, when the row is known and the place behind it
-turned : (c : goal.After-behind-p) → Turn c.args.text.now c.loop-p.p c.row_at-r.result c.behind-p.result
+turned : (c : goal.After-content_size) → Turn c.args.text.now c.loop-p.p c.row_at-row.result (c.row_at-row.result.place + c.content_size.result)
 turned c =
     let l = c.loop-p in
-    turn _ l.p _ _ c.loop-p-test.true l.invariant.2 c.row_at-r.ensures c.behind-p.ensures
+    turn _ l.p _ _ c.loop-p-test.true l.invariant.2 c.row_at-row.ensures (omega (arith, c.content_size.ensures))
 
 pub loop-p-init : goal.loop-p-init
 loop-p-init c = (omega arith, omega arith, c.requires.ends, omega arith, omega arith)
 
-pub row_at-r-requires : goal.row_at-r-requires
-row_at-r-requires c =
+pub row_at-row-requires : goal.row_at-row-requires
+row_at-row-requires c =
     let l = c.loop-p in
     record { short = c.requires.short; there = c.loop-p-test.true; whole = (turn _ l.p _ _ c.loop-p-test.true l.invariant.2 refl refl).header }
 
@@ -25,11 +25,11 @@ pub overflow_add-bytes : goal.overflow_add-bytes
 unfolding size_of
 overflow_add-bytes c =
     let l = c.loop-p in
-    let t = turn _ l.p c.row_at-r.result _ c.loop-p-test.true l.invariant.2 c.row_at-r.ensures refl in
+    let t = turn _ l.p c.row_at-row.result _ c.loop-p-test.true l.invariant.2 c.row_at-row.ensures refl in
     omega (arith, l.invariant.4, ap size_of t.rows, c.lean_size-bytes.ensures, c.requires.few)
 
-pub overflow_add-rows : goal.overflow_add-rows
-overflow_add-rows c = omega (arith, c.loop-p.invariant.1, c.requires.short)
+pub overflow_add-p : goal.overflow_add-p
+overflow_add-p c = omega (arith, (turned c).within, c.requires.short)
 
 pub loop-p-smaller : goal.loop-p-smaller
 loop-p-smaller c = let t = turned c in omega (arith, t.on, t.within)
@@ -46,9 +46,13 @@ loop-p-preserved c =
       omega (arith, l.invariant.4, ap size_of t.rows, c.lean_size-bytes.ensures),
     )
 
-pub returns : goal.returns
-unfolding size_of
-returns c =
+pub returns-clause-rows : goal.returns-clause-rows
+returns-clause-rows c =
     let l = c.loop-p in
-    let e = rows_end c.args.text.now l.p c.loop-p-test.false in
-    ap₂ Are (omega (arith, l.invariant.3, ap length e)) (omega (arith, l.invariant.4, ap size_of e))
+    omega (arith, l.invariant.3, ap length (rows_end c.args.text.now l.p c.loop-p-test.false))
+
+pub returns-clause-bytes : goal.returns-clause-bytes
+unfolding size_of
+returns-clause-bytes c =
+    let l = c.loop-p in
+    omega (arith, l.invariant.4, ap size_of (rows_end c.args.text.now l.p c.loop-p-test.false))

@@ -27,30 +27,6 @@ module _ (h n : ℕ) (p : 0 < h) (l : h ≤ 2 ^ 63) where
       let d : h - 1 - n % h ≡ 2 * h - suc (h + n % h) = omega arith in
       rw q (ap (to_z w64) b ∙ to_z-neg w64 (h - 1 - n % h) (omega arith) ∙ ap negsuc d ∙ sym (twos_high h (h + n % h) (omega arith)))
 
-pub nonzero_rem-low : goal.nonzero_rem-low
-nonzero_rem-low c = rw c.half_of-half.ensures (half_pos c.args.w)
-
-pub nonzero_div-n : goal.nonzero_div-n
-nonzero_div-n c = rw c.half_of-half.ensures (half_pos c.args.w)
-
-pub overflow_cast-result : goal.overflow_cast-result
-overflow_cast-result c =
-    let w = c.args.w in
-    rw c.half_of-half.ensures (record { sfits = omega (arith, mod-lt c.args.n (half_pos w), half_le w) })
-
-pub overflow_sub-result : goal.overflow_sub-result
-overflow_sub-result c = rw c.half_of-half.ensures (half_pos c.args.w)
-
-pub overflow_sub-result-else-n-half-eq0 : goal.overflow_sub-result-else-n-half-eq0
-overflow_sub-result-else-n-half-eq0 c =
-    let w = c.args.w in
-    rw c.half_of-half.ensures (omega (arith, mod-lt c.args.n (half_pos w)))
-
-pub overflow_cast-result-else-n-half-eq0 : goal.overflow_cast-result-else-n-half-eq0
-overflow_cast-result-else-n-half-eq0 c =
-    let w = c.args.w in
-    rw c.half_of-half.ensures (record { sfits = omega (arith, half_pos w, half_le w) })
-
 pub returns-then-n-half-eq0 : goal.returns-then-n-half-eq0
 unfolding signed_of
 returns-then-n-half-eq0 c =

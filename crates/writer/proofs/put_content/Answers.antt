@@ -1,11 +1,10 @@
--- The invariant: what is still to be stored from here on makes the same output as all from the start.
+-- What is still to be stored from here on makes the same output as all from the start.
 use Prim.Native.Nat.{ℕ, suc, ◌+◌}
 use mathlib.Core.Path.{◌≡◌, refl, sym, ap, ◌∙◌}
 use mathlib.Core.Bool.{Bool, true, false, cond}
 use mathlib.Core.List.{List, [], ◌∷◌, map}
 use native.Mathlib.Omega.{arith}
 use native.Mathlib.Numerals.{add-one}
-use native.Mathlib.Nat.{add-zero}
 use lib.Dec.{eqb}
 use lib.ListN.{length, drop, length-set}
 use lib.Seq.{sets, drop-cons, drop-length}
@@ -30,37 +29,16 @@ told_none c = go (eqb c BOOLEAN)
     go true = refl
     go false = refl
 
-pub loop-i-init : goal.loop-i-init
-loop-i-init c = (omega arith, refl, rw add-zero)
-
-pub bounds-content-i : goal.bounds-content-i
-bounds-content-i c = omega arith
-
-pub overflow_add-out : goal.overflow_add-out
-overflow_add-out c = omega arith
-
-pub bounds-out-at : goal.bounds-out-at
-bounds-out-at c = omega arith
-
-pub overflow_add-i : goal.overflow_add-i
-overflow_add-i c = omega arith
-
-pub loop-i-smaller : goal.loop-i-smaller
-loop-i-smaller c = omega arith
-
 pub loop-i-preserved : goal.loop-i-preserved
 loop-i-preserved c =
     let l = c.loop-i in
     let a = c.args in
     let e : a.at + (l.i + 1) ≡ suc (a.at + l.i) = omega arith in
-    let t = ap (told a.code) (drop-cons a.content.now l.i 0 (omega arith)) ∙ told_cons a.code _ _ in (
-      omega arith,
-      length-set l.out _ _ ∙ l.invariant.1,
-      rw (c.lean_byte.ensures, e, add-one) (sym (ap (sets l.out (a.at + l.i)) t) ∙ l.invariant.2),
-    )
-
-pub shape_of-out : goal.shape_of-out
-shape_of-out c = c.loop-i.invariant.1
+    let t = ap (told a.code) (drop-cons a.content.now l.i 0 (omega arith)) ∙ told_cons a.code _ _ in
+    record {
+      long = length-set l.out _ _ ∙ l.invariant.long;
+      same = rw (c.lean_byte.ensures, e, add-one) (sym (ap (sets l.out (a.at + l.i)) t) ∙ l.invariant.same);
+    }
 
 pub returns : goal.returns
 returns c =
@@ -68,4 +46,4 @@ returns c =
     let a = c.args in
     let e : l.i ≡ length a.content.now = omega arith in
     let t = ap (told a.code) (ap (λ (k : ℕ). drop k a.content.now) e ∙ drop-length a.content.now) ∙ told_none a.code in
-    sym (ap (sets l.out (a.at + l.i)) t) ∙ l.invariant.2
+    sym (ap (sets l.out (a.at + l.i)) t) ∙ l.invariant.same

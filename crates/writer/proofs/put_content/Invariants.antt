@@ -1,5 +1,5 @@
--- The invariant: what is still to be stored from here on makes the same output as all from the start.
-use Prim.Native.Nat.{◌+◌, ◌-◌, ◌≤◌}
+-- What is still to be stored from here on makes the same output as all from the start.
+use Prim.Native.Nat.{◌+◌}
 use mathlib.Core.Path.{◌≡◌}
 use lib.ListN.{length, drop}
 use lib.Seq.{sets}
@@ -8,7 +8,7 @@ use Rattle.writer.proofs.put_content.Given as goal
 
 abbrev pub invariant-loop-i : goal.invariant-loop-i
 invariant-loop-i l =
-    (l.i ≤ length l.content) × (length l.out ≡ length l.initial.out) × (sets l.out (l.at + l.i) (told l.code (drop l.i l.content)) ≡ sets l.initial.out l.at (told l.code l.content))
-
-abbrev pub decreases-loop-i : goal.decreases-loop-i
-decreases-loop-i l = length l.content - l.i
+    record {
+      long : length l.out ≡ length l.initial.out;
+      same : sets l.out (l.at + l.i) (told l.code (drop l.i l.content)) ≡ sets l.initial.out l.at (told l.code l.content);
+    }

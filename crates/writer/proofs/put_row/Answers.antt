@@ -1,5 +1,5 @@
 -- The header is stored, and behind it the content that the row names, if it is no list's: one run of stores.
-use Prim.Native.Nat.{ℕ, ◌+◌, ◌-◌, ◌≤◌}
+use Prim.Native.Nat.{ℕ, ◌+◌, ◌-◌}
 use mathlib.Core.Path.{◌≡◌, sym, ap, ap₂, ◌∙◌}
 use mathlib.Core.List.{List}
 use native.Mathlib.Omega.{arith}
@@ -22,60 +22,42 @@ plain_put out mid last s at body r n e f d =
     ∙ ap₂ (λ (o : List ℕ) (k : ℕ). sets o k (told r.code (part_at s r))) e f
     ∙ sets_append out at (lean_header r.code r.length) (told r.code (part_at s r)) ∙ ap (sets out at) (sym (plain_text s r n))
 
--- its content is there, and its text is its header and it
-inside : (c : goal.After-put_content-arg-1) → c.args.r.place + c.args.r.length ≤ length c.args.content.now
-inside c = c.requires.fits.within c.if-code-eq-L.false
+pub put_header-body-requires-clause-room : goal.put_header-body-requires-clause-room
+put_header-body-requires-clause-room c = omega (arith, c.requires.room, header_within c.args.content.now c.args.row)
 
--- its content is there, and its text is its header and it
-inside_2 : (c : goal.After-put_content-arg-2-1) → c.args.r.place + c.args.r.length ≤ length c.args.content.now
-inside_2 c = c.requires.fits.within c.if-code-eq-L.false
-
-long : (c : goal.After-put_content-arg-2-1)
-    → length (row_text c.args.content.now c.args.r) ≡ length (lean_header c.args.r.code c.args.r.length) + c.args.r.length
-long c = plain_length c.args.content.now c.args.r c.if-code-eq-L.false (inside_2 c)
-
--- its content is there, and its text is its header and it
-inside_3 : (c : goal.After-slice_known-3-1) → c.args.r.place + c.args.r.length ≤ length c.args.content.now
-inside_3 c = c.requires.fits.within c.if-code-eq-L.false
-
-long_2 : (c : goal.After-slice_known-3-1)
-    → length (row_text c.args.content.now c.args.r) ≡ length (lean_header c.args.r.code c.args.r.length) + c.args.r.length
-long_2 c = plain_length c.args.content.now c.args.r c.if-code-eq-L.false (inside_3 c)
-
-pub put_header-body-requires : goal.put_header-body-requires
-put_header-body-requires c =
-    let e = c in
-    (omega (arith, e.requires.r_in_bounds, header_within e.args.content.now e.args.r), e.requires.fits.small)
-
-pub returns-then-code-eq-L : goal.returns-then-code-eq-L
-returns-then-code-eq-L c =
-    let p = c.put_header-body in
+pub returns-then-row-eq-L-clause-out : goal.returns-then-row-eq-L-clause-out
+returns-then-row-eq-L-clause-out c =
     let a = c.args in
-    let t = list_text a.content.now a.r c.if-code-eq-L.true in
-    (p.ensures.0 ∙ ap (sets a.out.now a.at) (sym t), p.ensures.1 ∙ ap (λ (x : List ℕ). a.at + length x) (sym t))
+    c.put_header-body.ensures.out ∙ ap (sets a.out.now a.at) (sym (list_text a.content.now a.row c.if-row-eq-L.true))
 
-pub slice_bounds-put_content-end : goal.slice_bounds-put_content-end
-slice_bounds-put_content-end c = omega (arith, inside c)
+pub returns-then-row-eq-L-clause-behind : goal.returns-then-row-eq-L-clause-behind
+returns-then-row-eq-L-clause-behind c =
+    let a = c.args in
+    c.put_header-body.ensures.behind ∙ ap (λ (x : List ℕ). a.at + length x) (sym (list_text a.content.now a.row c.if-row-eq-L.true))
 
 pub put_content-requires : goal.put_content-requires
 put_content-requires c =
-    let d = c in
-    let p = d.put_header-body in
-    let a = d.args in
-    let o : length p.new.out ≡ length a.out.now = ap length p.ensures.0 ∙ length-sets a.out.now a.at (lean_header a.r.code a.r.length) in
-    let n = ap length (part_between a.content.now a.r) ∙ part_length a.content.now a.r (inside_2 d) in
-    omega (arith, long d, n, o, p.ensures.1, d.requires.r_in_bounds)
+    let p = c.put_header-body in
+    let a = c.args in
+    let within = c.requires.fits.within c.if-row-eq-L.false in
+    let o : length p.new.out ≡ length a.out.now = ap length p.ensures.out ∙ length-sets a.out.now a.at (lean_header a.row.code a.row.length) in
+    let n = ap length (part_between a.content.now a.row) ∙ part_length a.content.now a.row within in
+    omega (arith, plain_length a.content.now a.row c.if-row-eq-L.false within, n, o, p.ensures.behind, c.requires.room)
 
 pub overflow_add-result : goal.overflow_add-result
 overflow_add-result c =
-    let d = c in
-    omega (arith, long_2 d, d.put_header-body.ensures.1, d.requires.r_in_bounds)
+    let a = c.args in
+    let long = plain_length a.content.now a.row c.if-row-eq-L.false (c.requires.fits.within c.if-row-eq-L.false) in
+    omega (arith, long, c.put_header-body.ensures.behind, c.requires.room)
 
-pub returns : goal.returns
-returns c =
-    let d = c in
-    let p = d.put_header-body in
-    let a = d.args in (
-      plain_put a.out.now p.new.out _ a.content.now a.at _ a.r d.if-code-eq-L.false p.ensures.0 p.ensures.1 c.put_content.ensures,
-      omega (arith, long_2 d, p.ensures.1),
-    )
+pub returns-clause-out : goal.returns-clause-out
+returns-clause-out c =
+    let p = c.put_header-body in
+    let a = c.args in
+    plain_put a.out.now p.new.out _ a.content.now a.at _ a.row c.if-row-eq-L.false p.ensures.out p.ensures.behind c.put_content.ensures
+
+pub returns-clause-behind : goal.returns-clause-behind
+returns-clause-behind c =
+    let a = c.args in
+    let long = plain_length a.content.now a.row c.if-row-eq-L.false (c.requires.fits.within c.if-row-eq-L.false) in
+    omega (arith, long, c.put_header-body.ensures.behind)

@@ -1,14 +1,15 @@
--- The invariant: the sizes of the rows passed and of those from here on make the sum; each is at most 5 bytes more than a u32.
-use Prim.Native.Nat.{◌+◌, ◌-◌, ◌≤◌}
+-- The sizes of the rows passed and of those from here on make the sum.
+use Prim.Native.Nat.{◌+◌, ◌≤◌}
 use mathlib.Core.Path.{◌≡◌}
-use lib.ListN.{length, drop}
+use mathlib.Core.List.{map}
+use lib.ListN.{drop}
 use Rattle.wire.specs.Longest.{longest}
-use Rattle.rows.specs.Row.{rows_of, size_of}
+use Rattle.rows.specs.Row.{row_of, size_of}
 use Rattle.writer.proofs.text_size.Given as goal
 
-abbrev pub invariant-loop-i : goal.invariant-loop-i
-invariant-loop-i l =
-    (l.i ≤ length l.table) × (l.size ≤ longest) × (l.size + size_of (rows_of (drop l.i l.table)) ≡ size_of (rows_of l.table))
-
-abbrev pub decreases-loop-i : goal.decreases-loop-i
-decreases-loop-i l = length l.table - l.i
+abbrev pub invariant-loop-numbers : goal.invariant-loop-numbers
+invariant-loop-numbers l =
+    record {
+      few : l.bytes ≤ longest;
+      rest : l.bytes + size_of (map row_of (drop l.numbers-index l.rows)) ≡ size_of (map row_of l.rows);
+    }

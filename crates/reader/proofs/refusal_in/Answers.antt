@@ -1,0 +1,6 @@
+-- The list allows no other number than a refusal's.
+use Rattle.reader.proofs.Answered.{no_number}
+use Rattle.reader.proofs.refusal_in.Goals as goal
+
+pub unreachable-requires : goal.unreachable-requires
+unreachable-requires c = no_number c.args.number c.requires c.in-Err.ensures.1

@@ -1,9 +1,0 @@
--- The place stays within the 128.
-use Rattle.std.proofs.Common.{◌-◌, ◌≤◌}
-use Rattle.sessions.proofs.flag_fields.Given as goal
-
-abbrev pub invariant-loop-i : goal.invariant-loop-i
-invariant-loop-i l = l.i ≤ 128
-
-abbrev pub decreases-loop-i : goal.decreases-loop-i
-decreases-loop-i l = 128 - l.i

@@ -1,9 +1,0 @@
--- The place stays within the lines, and each turn goes on behind a line's end.
-use Rattle.std.proofs.Common.{◌-◌, ◌≤◌, length}
-use Rattle.texts.proofs.lines.Given as goal
-
-abbrev pub invariant-loop-at : goal.invariant-loop-at
-invariant-loop-at l = l.at ≤ length l.input
-
-abbrev pub decreases-loop-at : goal.decreases-loop-at
-decreases-loop-at l = length l.input - l.at
