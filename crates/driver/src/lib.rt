@@ -1,50 +1,45 @@
 // What the programs that are driven by lines share: the loop over the lines of standard input, and fields as they print them.
 #![tactic(auto)]
 
-ghost use Rattle.std.specs.Prelude.{◌≡◌};
+mod stdout;
+
+ghost use Rattle.std.specs.Prelude.{◌≡◌, ◌++◌, OnOk};
 ghost use Rattle.refusal.specs.Answer.{number_in};
+ghost use Rattle.driver.specs.Printed.{bad_record, hex_field, answer_fields};
 
 use refusal::Refusal;
 use std::fmt;
 use std::fmt::Write;
+pub use stdout::Stdout;
 
 // standard input, as a file descriptor
 const STDIN: i32 = 0;
 
-// standard output
-const STDOUT: i32 = 1;
-
-/// Standard output. What cannot be written is lost without a word.
-#[derive(Clone, Copy)]
-pub struct Stdout;
-
-impl Stdout {
-    /// Writes bytes as they are.
-    pub fn bytes(&mut self, s: &[u8]) {
-        io::write_all(STDOUT, s);
-    }
-}
-
-impl fmt::Write for Stdout {
-    fn write_str(&mut self, s: &str) -> fmt::Result {
-        self.bytes(s.as_bytes());
-        Ok(())
-    }
-}
-
 /// A program that is driven by lines: what it keeps from line to line, and what it does with a record.
 pub trait Program {
+    // What records may make of a program: none leaves it as it is, and some after some are some.
+    ghost moves: { Self → Self → Type 0 };
+
     /// Does what a record says, and prints a line. The record's line begins with this letter, and says these bytes.
-    fn record(&mut self, stdout: &mut Stdout, letter: u8, bytes: &mut [u8]) -> fmt::Result;
+    fn record(&mut self, stdout: &mut Stdout, letter: u8, bytes: &mut [u8]) -> fmt::Result
+        ensures { moves self.old self.new };
+
+    ghost none: { (p : Self) → moves p p };
+
+    ghost some_then_some: { (p q r : Self) → moves p q → moves q r → moves p r };
 }
 
 /// Says that a record is not one.
-pub fn bad(stdout: &mut Stdout) -> fmt::Result {
+pub fn bad(stdout: &mut Stdout) -> fmt::Result
+    ensures { OnOk result (stdout.new.said ≡ stdout.old.said ++ bad_record) }
+{
     stdout.write_str("bad record\n")
 }
 
 /// Prints bytes in hex, behind a tab.
-pub fn digits(stdout: &mut Stdout, bytes: &[u8]) -> fmt::Result {
+pub fn digits(stdout: &mut Stdout, bytes: &[u8]) -> fmt::Result
+    ensures { OnOk result (stdout.new.said ≡ stdout.old.said ++ hex_field bytes.now 1048576) }
+{
     let mut out = records::room();
     match hexes::hex_of(bytes, &mut out) {
         Ok(n) => {
@@ -71,6 +66,8 @@ pub fn number<T: Drop>(answer: std::result::Result<T, Refusal>) -> u32
 pub struct Answer<T>(pub std::result::Result<T, Refusal>);
 
 impl<T: fmt::Display> fmt::Display for Answer<T> {
+    ghost output = { λ answer. answer_fields T.output answer.0 };
+
     fn fmt<W: fmt::Write>(&self, f: &mut fmt::Formatter<W>) -> fmt::Result {
         match &self.0 {
             Ok(x) => write!(f, "\t{x}"),
@@ -80,7 +77,9 @@ impl<T: fmt::Display> fmt::Display for Answer<T> {
 }
 
 // A line is empty, or a comment, which is printed again, or a letter and the bytes of a record in hex.
-fn line<P: Program>(program: &mut P, stdout: &mut Stdout, line: &[u8]) -> fmt::Result {
+fn line<P: Program>(program: &mut P, stdout: &mut Stdout, line: &[u8]) -> fmt::Result
+    ensures { P.moves program.old program.new }
+{
     match line {
         [] => Ok(()),
         [b'#', ..] => {
@@ -97,7 +96,9 @@ fn line<P: Program>(program: &mut P, stdout: &mut Stdout, line: &[u8]) -> fmt::R
     }
 }
 
-fn lines<P: Program>(program: &mut P, stdout: &mut Stdout, input: &[u8]) -> fmt::Result {
+fn lines<P: Program>(program: &mut P, stdout: &mut Stdout, input: &[u8]) -> fmt::Result
+    ensures { P.moves program.old program.new }
+{
     // not `split`: where a line ends is `records::line_end`, which has a promise and an edit
     let mut at: usize = 0;
     while at < input.len() {
@@ -109,8 +110,10 @@ fn lines<P: Program>(program: &mut P, stdout: &mut Stdout, input: &[u8]) -> fmt:
 }
 
 /// Gives a program the records of standard input, one after another; it takes at most 1,048,575 bytes.
-pub fn run<P: Program>(program: &mut P) -> fmt::Result {
-    let mut stdout = Stdout;
+pub fn run<P: Program>(program: &mut P) -> fmt::Result
+    ensures { P.moves program.old program.new }
+{
+    let mut stdout = Stdout::new();
     let mut input = records::room();
     let n = io::read_full(STDIN, &mut input);
     if n == input.len() {

@@ -8,7 +8,7 @@ pub data Place : Type 0 where
   At : ℕ → ℕ → Place
   Refused : ℕ → Place
 
--- what a call answers, as a place
+-- what private functions answer, as a place
 abbrev pub span_in : Result Span Refusal → Place
 span_in (Ok s) = At s.at s.width
 span_in (Err e) = Refused (number_of e)

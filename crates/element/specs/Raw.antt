@@ -7,7 +7,7 @@ pub data Raw : Type 0 where
   Is : ℕ → Raw
   Refused : ℕ → Raw
 
--- what a call answers, with the refusal as its number
+-- what private functions answer, with the refusal as its number
 abbrev pub raw_in : Result ℕ Refusal → Raw
 raw_in (Ok n) = Is n
 raw_in (Err e) = Refused (number_of e)

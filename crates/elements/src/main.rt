@@ -72,6 +72,15 @@ fn set(stdout: &mut Stdout, b: &mut [u8]) -> fmt::Result {
 struct Elements;
 
 impl Program for Elements {
+    ghost use Rattle.std.specs.Prelude.{◌≡◌, refl};
+    ghost use Rattle.std.proofs.Common.{◌∙◌};
+
+    ghost moves = { λ p q. p ≡ q };
+
+    ghost none = { λ p. refl };
+
+    ghost some_then_some = { λ p q r e f. e ∙ f };
+
     fn record(&mut self, stdout: &mut Stdout, letter: u8, bytes: &mut [u8]) -> fmt::Result {
         match letter {
             b'g' => get(stdout, bytes),

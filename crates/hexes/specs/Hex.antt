@@ -19,7 +19,7 @@ digit_of c =
     (cond (within 0x61 0x66 c) (c - 0x57)
     16))
 
--- a digit's value, if it is one
+-- what a private function answers: a digit's value, if it is one
 abbrev pub some_digit : ℕ → Option ℕ
 some_digit d = cond (ltb d 16) (Some d) None
 
@@ -31,7 +31,7 @@ between = 16
 abbrev pub wrong : ℕ
 wrong = 17
 
--- the number of a place; behind a first digit it is the digit's value, below 16
+-- what private functions say of a place: its number; behind a first digit it is the digit's value, below 16
 abbrev pub number_of : Place → ℕ
 number_of Between = between
 number_of (Behind d) = d

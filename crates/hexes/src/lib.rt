@@ -1,11 +1,12 @@
 // Bytes in hex, both ways: the bytes that a line's characters say, and the digits that bytes are printed as.
 #![tactic(auto)]
 
-ghost use Rattle.std.specs.Prelude.{true, cond, ◌≡◌, ◌*◌, ◌+◌, ◌≤◌, ◌<◌, ltb, length, set, Ok, Err, IfOk};
+ghost use Rattle.std.specs.Prelude.{true, cond, ◌≡◌, ◌*◌, ◌+◌, ◌≤◌, ◌<◌, ltb, length, set, Some, Ok, Err, IfOk};
 ghost use Rattle.std.proofs.lemmas.List.Edits.{sets};
 ghost use Rattle.refusal.specs.Answer.{counted_in};
 ghost use Rattle.wire.specs.Lent.{out_after};
 ghost use Rattle.hexes.specs.Hex.{digit_of, some_digit, place_on, number_of, IsPlace, is_hex, bytes_in, said_of, said_after, glyph_of, hex_of, printed_of};
+ghost use Rattle.hexes.specs.Words.{words_of};
 
 use refusal::Refusal;
 use std::error::Error;
@@ -21,6 +22,8 @@ pub enum HexError {
 }
 
 impl fmt::Display for HexError {
+    ghost output = { λ e. Some (words_of e) };
+
     fn fmt<W: fmt::Write>(&self, f: &mut fmt::Formatter<W>) -> fmt::Result {
         f.write_str(match self {
             HexError::Wrong => "a character is wrong, or a byte is half there",
@@ -59,11 +62,20 @@ fn place_on(place: Place, c: u8) -> Place
     ensures number { number_of result ≡ place_on (number_of place) c }
     ensures within { IsPlace result }
 {
-    match (place, digit(c)) {
-        (Place::Between, Some(d)) => Place::Behind(d),
-        (Place::Behind(_), Some(_)) => Place::Between,
-        (Place::Between, None) if c == b' ' => Place::Between,
-        _ => Place::Broken,
+    match place {
+        Place::Between => match digit(c) {
+            Some(d) => Place::Behind(d),
+            None => if c == b' ' {
+                Place::Between
+            } else {
+                Place::Broken
+            },
+        },
+        Place::Behind(_) => match digit(c) {
+            Some(_) => Place::Between,
+            None => Place::Broken,
+        },
+        Place::Broken => Place::Broken,
     }
 }
 

@@ -191,6 +191,13 @@ impl Messages {
 }
 
 impl Program for Messages {
+    // Records set states by hand, so that any may follow any.
+    ghost moves = { λ p q. Unit {0} };
+
+    ghost none = { λ p. tt };
+
+    ghost some_then_some = { λ p q r e f. tt };
+
     fn record(&mut self, stdout: &mut Stdout, letter: u8, bytes: &mut [u8]) -> fmt::Result {
         match letter {
             b'f' => self.fresh(stdout),

@@ -1,8 +1,9 @@
 // Why a call refuses: each cause, with its number.
 #![tactic(auto)]
 
-ghost use Rattle.std.specs.Prelude.{◌≡◌};
+ghost use Rattle.std.specs.Prelude.{◌≡◌, Some};
 ghost use Rattle.refusal.specs.Number.{number_of, Numbered};
+ghost use Rattle.refusal.specs.Words.{words_of, unknown_words};
 
 use std::error::Error;
 use std::fmt;
@@ -99,6 +100,8 @@ impl TryFrom<u32> for Refusal {
 }
 
 impl fmt::Display for Refusal {
+    ghost output = { λ refusal. Some (words_of refusal) };
+
     fn fmt<W: fmt::Write>(&self, f: &mut fmt::Formatter<W>) -> fmt::Result {
         f.write_str(match self {
             Refusal::UnknownCode => "the code is unknown",
@@ -137,6 +140,8 @@ impl fmt::Display for Refusal {
 }
 
 impl fmt::Display for UnknownNumber {
+    ghost output = { λ e. Some (unknown_words e) };
+
     fn fmt<W: fmt::Write>(&self, f: &mut fmt::Formatter<W>) -> fmt::Result {
         write!(f, "no refusal has the number {}", self.0)
     }

@@ -90,6 +90,15 @@ fn lean(stdout: &mut Stdout, b: &[u8]) -> fmt::Result {
 struct Texts;
 
 impl Program for Texts {
+    ghost use Rattle.std.specs.Prelude.{◌≡◌, refl};
+    ghost use Rattle.std.proofs.Common.{◌∙◌};
+
+    ghost moves = { λ p q. p ≡ q };
+
+    ghost none = { λ p. refl };
+
+    ghost some_then_some = { λ p q r e f. e ∙ f };
+
     fn record(&mut self, stdout: &mut Stdout, letter: u8, bytes: &mut [u8]) -> fmt::Result {
         match letter {
             b'j' => judge(stdout, bytes),
