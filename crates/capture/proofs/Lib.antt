@@ -1,3 +1,4 @@
 pub mod Texts
 pub mod Answered
+mod Settled
 pub mod Determined

@@ -109,11 +109,9 @@ fn text_byte(l: Lister, b: u8) -> Told
         return told_of(l, None, None);
     }
     let fed = reader::feed(l.text, &[b]);
-    let t = Lister {
-        text: fed.reader,
-        listed: true,
-        ..l
-    };
+    let mut t = l;
+    t.text = fed.reader;
+    t.listed = true;
     match fed.answer {
         Ok(_) => told_of(t, item_came(l.text, b), None),
         Err(refusal) => refuse(t, refusal),
@@ -148,17 +146,25 @@ fn header_came(l: Lister, h: Header, n: usize) -> Told
 }
 
 // Behind a frame's last byte comes its end.
-fn settle(l: Lister) -> Lister
+fn settle(mut l: Lister) -> Lister
     ensures { result ≡ settled l }
 {
+    // only behind the last byte of a text does a feed of none change anything
+    match l.frames.phase {
+        frames::Phase::Text => {}
+        _ => return l,
+    }
+    if l.frames.left != 0 {
+        return l;
+    }
     let fed = frames::feed(l.frames, &[]);
     match fed.event {
         Ok(event) => match event {
-            Event::End => Lister {
-                frames: fed.reader,
-                count: one_more(l.count),
-                ..l
-            },
+            Event::End => {
+                l.frames = fed.reader;
+                l.count = one_more(l.count);
+                l
+            }
             _ => l,
         },
         Err(_) => l,
@@ -169,11 +175,9 @@ fn feed_byte(l: Lister, b: u8) -> Told
     ensures { result ≡ fed_byte l b }
 {
     let fed = frames::feed(l.frames, &[b]);
-    let t = Lister {
-        frames: fed.reader,
-        bytes: one_more(l.bytes),
-        ..l
-    };
+    let mut t = l;
+    t.frames = fed.reader;
+    t.bytes = one_more(l.bytes);
     match fed.event {
         Ok(event) => match event {
             Event::Header(h, n) => header_came(t, h, n),

@@ -148,6 +148,7 @@ impl Rest {
     }
 
     /// Whether anything may follow with j length bytes to come, behind those that say v.
+    #[inline(always)]
     #[tactic(auto, unfolding(crate::specs::Fits::fits_lengths))]
     pub fn fits_lengths(self, c: u32, j: usize, v: usize) -> bool
         ensures { result ≡ fits_lengths self.form c self.bytes (stack self.levels) j v }

@@ -216,6 +216,7 @@ fn text_fed(left: usize, size: usize) -> Fed
 }
 
 /// A piece more, perhaps empty: what it reached first.
+#[inline(always)]
 pub fn feed(r: FrameReader, piece: &[u8]) -> Fed
     ensures { fed_in result ≡ fed_of r piece.now }
 {

@@ -26,6 +26,10 @@ fn put_line(out: &mut [u8], at: usize, line: Option<Line>) -> usize
     requires { at + length (line_text line) ≤ length out.old }
     ensures { (result ≡ at + length (line_text line)) × (out.new ≡ sets out.old at (line_text line)) }
 {
+    // most bytes give no line
+    if line.is_none() {
+        return at;
+    }
     let mut text = [0u8; 160];
     let n = lines::print(line, &mut text);
     let end = at + n;

@@ -169,17 +169,21 @@ fn step_byte(r: Reader, b: u8) -> Reader
 }
 
 // The refusal that a refused reader keeps.
+#[cold]
+#[inline(never)]
 fn refusal_in(number: u32) -> Refusal
     requires { refusal_number number ≡ true }
     ensures { number_of result ≡ number }
 {
     match Refusal::try_from(number) {
         Ok(refusal) => refusal,
-        Err(_) => unreachable!(),
+        // never met; an answer and no trap, so that a compiler sees that a feed has no effect
+        Err(_) => Refusal::BrokenState,
     }
 }
 
 // What a reader that the list allows answers, by its phase.
+#[inline(always)]
 #[tactic(auto, using(crate::proofs::Answered::by_phase))]
 fn status_in(r: Reader) -> Result<Progress, Refusal>
     requires { allows r ≡ true }
@@ -335,6 +339,7 @@ fn eat_all(r: Reader, piece: &[u8]) -> Fed
 }
 
 /// What a reader that is fed nothing more answers; BrokenState first.
+#[inline(always)]
 #[tactic(auto, unfolding(crate::specs::Feed::status_of))]
 pub fn status_of(r: Reader) -> Result<Progress, Refusal>
     ensures { answer_in result ≡ status_of r }
@@ -347,6 +352,7 @@ pub fn status_of(r: Reader) -> Result<Progress, Refusal>
 }
 
 // What a reader answers before it reads a piece; once complete it takes an empty one alone.
+#[inline(always)]
 fn opening(r: Reader, piece: &[u8]) -> Result<Progress, Refusal>
     ensures { answer_in result ≡ opening_at (Rattle.reader.specs.Feed.status_of r) piece.now }
 {

@@ -2,5 +2,5 @@
 use Rattle.reader.proofs.Answered.{no_number}
 use Rattle.reader.proofs.refusal_in.Goals as goal
 
-pub unreachable-requires : goal.unreachable-requires
-unreachable-requires c = no_number c.args.number c.requires c.in-Err.ensures.1
+pub returns-in-Err : goal.returns-in-Err
+returns-in-Err c = absurd (no_number c.args.number c.requires c.in-Err.ensures.1)
