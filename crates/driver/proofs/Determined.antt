@@ -5,17 +5,22 @@ use Rattle.std.specs.Fmt.{IsPlainFormatter, formatter_writer}
 use Rattle.refusal.proofs.Written.{Holds, one_writing}
 use Rattle.driver.specs.Printed.{answer_fields}
 use Rattle.driver.proofs.number.Reads as number_reads
+use Rattle.driver.proofs.stdout.Stdout.new.Reads as new_reads
 use Rattle.driver.proofs.stdout.Stdout.bytes.Reads as bytes_reads
 use Rattle.driver.proofs.stdout.StdoutWrite.write_str.Reads as write_str_reads
 use Rattle.driver.proofs.bad.Reads as bad_reads
 use Rattle.driver.proofs.digits.Reads as digits_reads
 use Rattle.driver.proofs.AnswerDisplay.fmt.Reads as display_reads
+use Rattle.driver.proofs.Program.record.Reads as record_reads
 use Rattle.driver.proofs.run.Reads as run_reads
 
 number_one : (g : _) (t : _) (d : _) (κs : _) (a : _) (r r' : _) (s s' : _) → number_reads.Post g t d κs a r s → number_reads.Post g t d κs a r' s' → r ≡ r'
 number_one g t d κs a r r' s s' p q = p ∙ sym q
 
 -- what standard output was handed
+
+new_one : (κs : _) (a : _) (r r' : _) (s s' : _) → new_reads.Post κs a r s → new_reads.Post κs a r' s' → r.said ≡ r'.said
+new_one κs a r r' s s' p q = p ∙ sym q
 
 bytes_one : (κs : _) (a : _) (r r' : _) (s s' : _) → bytes_reads.Post κs a r s → bytes_reads.Post κs a r' s' → s.0.now.said ≡ s'.0.now.said
 bytes_one κs a r r' s s' p q = p ∙ sym q
@@ -51,8 +56,14 @@ display_one :
 display_one T W l m g t h u κs a r r' s s' p q bs e held holds plain ok ok' =
     one_writing _ held holds _ bs _ _ (some_of _ _ bs e p.0 plain ok) (some_of _ _ bs e q.0 plain ok')
 
--- what is left of a program where records may make one thing of it alone, as of one that keeps nothing from line to line
+-- the program and what standard output was handed, behind a record and behind an input
+
+record_one :
+    (P : _) (l : _) (g : _) (t : _) (κs : _) (a : _) (r r' : _) (s s' : _) → record_reads.Post P l g t κs a r s → record_reads.Post P l g t κs a r' s'
+    → IsOk r → IsOk r' → ◌≡◌ {A = P.Denot × List ℕ} (s.0.now, s.1.0.now.said) (s'.0.now, s'.1.0.now.said)
+record_one P l g t κs a r r' s s' p q ok ok' = from_ok r p ok ∙ sym (from_ok r' q ok')
+
 run_one :
     (P : _) (l : _) (g : _) (t : _) (κs : _) (a : _) (r r' : _) (s s' : _) → run_reads.Post P l g t κs a r s → run_reads.Post P l g t κs a r' s'
-    → ((p q q' : P.Denot) → g.moves p q → g.moves p q' → q ≡ q') → s.0.now ≡ s'.0.now
-run_one P l g t κs a r r' s s' p q one = one a.0.now s.0.now s'.0.now p q
+    → IsOk r → IsOk r' → ◌≡◌ {A = P.Denot × List ℕ} (s.0.now, s.1.0.now.said) (s'.0.now, s'.1.0.now.said)
+run_one P l g t κs a r r' s s' p q ok ok' = from_ok r p ok ∙ sym (from_ok r' q ok')

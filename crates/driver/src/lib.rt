@@ -1,32 +1,30 @@
-// What the programs that are driven by lines share: the loop over the lines of standard input, and fields as they print them.
+// What the programs that are driven by lines share: the loop over the lines of an input, and fields as they print them.
 #![tactic(auto)]
 
 mod stdout;
 
-ghost use Rattle.std.specs.Prelude.{◌≡◌, ◌++◌, OnOk};
+ghost use Rattle.std.specs.Prelude.{◌≡◌, ◌≤◌, ℕ, List, length, map, ◌++◌, OnOk};
 ghost use Rattle.refusal.specs.Answer.{number_in};
+ghost use Rattle.records.specs.Lines.{lines_of};
 ghost use Rattle.driver.specs.Printed.{bad_record, hex_field, answer_fields};
+ghost use Rattle.driver.specs.Input.{line_of, input_of, line_done, lines_done};
 
 use refusal::Refusal;
 use std::fmt;
 use std::fmt::Write;
 pub use stdout::Stdout;
 
-// standard input, as a file descriptor
-const STDIN: i32 = 0;
+// A program takes so many bytes of lines at most.
+const MOST: usize = 1_048_575;
 
 /// A program that is driven by lines: what it keeps from line to line, and what it does with a record.
 pub trait Program {
-    // What records may make of a program: none leaves it as it is, and some after some are some.
-    ghost moves: { Self → Self → Type 0 };
+    // The program and what standard output was handed, both behind a record of this letter and these bytes.
+    ghost done: { Self × List ℕ → ℕ → List ℕ → Self × List ℕ };
 
     /// Does what a record says, and prints a line. The record's line begins with this letter, and says these bytes.
     fn record(&mut self, stdout: &mut Stdout, letter: u8, bytes: &mut [u8]) -> fmt::Result
-        ensures { moves self.old self.new };
-
-    ghost none: { (p : Self) → moves p p };
-
-    ghost some_then_some: { (p q r : Self) → moves p q → moves q r → moves p r };
+        ensures { OnOk result ((self.new, stdout.new.said) ≡ done (self.old, stdout.old.said) letter bytes.old) };
 }
 
 /// Says that a record is not one.
@@ -78,26 +76,26 @@ impl<T: fmt::Display> fmt::Display for Answer<T> {
 
 // A line is empty, or a comment, which is printed again, or a letter and the bytes of a record in hex.
 fn line<P: Program>(program: &mut P, stdout: &mut Stdout, line: &[u8]) -> fmt::Result
-    ensures { P.moves program.old program.new }
+    requires { length line.now ≤ 1048575 }
+    ensures { OnOk result ((program.new, stdout.new.said) ≡ line_done P.done (program.old, stdout.old.said) (line_of line.now)) }
 {
-    match line {
-        [] => Ok(()),
-        [b'#', ..] => {
-            stdout.bytes(line);
-            stdout.write_str("\n")
-        }
-        [letter, hex @ ..] => {
-            let mut said = records::room();
-            match hexes::bytes_in(hex, &mut said) {
-                Ok(n) => program.record(stdout, *letter, &mut said[..n]),
-                Err(_) => bad(stdout),
-            }
-        }
+    let Some((letter, hex)) = line.split_first() else {
+        return Ok(());
+    };
+    if *letter == b'#' {
+        stdout.bytes(line);
+        return stdout.write_str("\n");
+    }
+    let mut said = records::room();
+    match hexes::bytes_in(hex, &mut said) {
+        Ok(n) => program.record(stdout, *letter, &mut said[..n]),
+        Err(_) => bad(stdout),
     }
 }
 
 fn lines<P: Program>(program: &mut P, stdout: &mut Stdout, input: &[u8]) -> fmt::Result
-    ensures { P.moves program.old program.new }
+    requires { length input.now ≤ 1048575 }
+    ensures { OnOk result ((program.new, stdout.new.said) ≡ lines_done P.done (program.old, stdout.old.said) (map line_of (lines_of input.now))) }
 {
     // not `split`: where a line ends is `records::line_end`, which has a promise and an edit
     let mut at: usize = 0;
@@ -109,15 +107,12 @@ fn lines<P: Program>(program: &mut P, stdout: &mut Stdout, input: &[u8]) -> fmt:
     Ok(())
 }
 
-/// Gives a program the records of standard input, one after another; it takes at most 1,048,575 bytes.
-pub fn run<P: Program>(program: &mut P) -> fmt::Result
-    ensures { P.moves program.old program.new }
+/// Gives a program the records of an input, one after another; it takes at most 1,048,575 bytes.
+pub fn run<P: Program>(program: &mut P, stdout: &mut Stdout, input: &[u8]) -> fmt::Result
+    ensures { OnOk result ((program.new, stdout.new.said) ≡ lines_done P.done (program.old, stdout.old.said) (input_of input.now)) }
 {
-    let mut stdout = Stdout::new();
-    let mut input = records::room();
-    let n = io::read_full(STDIN, &mut input);
-    if n == input.len() {
+    if MOST < input.len() {
         return stdout.write_str("too much input\n");
     }
-    lines(program, &mut stdout, &input[..n])
+    lines(program, stdout, input)
 }

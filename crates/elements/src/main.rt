@@ -1,17 +1,27 @@
 // Elements answered and set, as lines on standard input say (docs/CALLS.md).
 #![tactic(auto)]
 
+ghost use Rattle.std.specs.Prelude.{◌≡◌, ◌++◌, OnOk, Some};
+ghost use Rattle.driver.specs.Input.{says};
+ghost use Rattle.elements.specs.Records.{element_text, got_line, element_of, set_line, printed};
+
 use driver::{Answer, Program, Stdout};
 use element::Element;
 use std::fmt;
 use std::fmt::Write;
 use wire::Width;
 
+// standard input, as a file descriptor
+const STDIN: i32 = 0;
+
 // An element's sort, and behind a tab its number, or its bits in hex.
 #[derive(Clone, Copy)]
 struct Fields(Element);
 
+#[tactic(auto, using(crate::proofs::Printed::hole))]
 impl fmt::Display for Fields {
+    ghost output = { λ fields. Some (element_text fields.0) };
+
     fn fmt<W: fmt::Write>(&self, f: &mut fmt::Formatter<W>) -> fmt::Result {
         match self.0 {
             Element::Signed(x) => {
@@ -29,7 +39,9 @@ impl fmt::Display for Fields {
 }
 
 // code (4), place (4), content
-fn get(stdout: &mut Stdout, b: &[u8]) -> fmt::Result {
+fn get(stdout: &mut Stdout, b: &[u8]) -> fmt::Result
+    ensures { OnOk result (stdout.new.said ≡ stdout.old.said ++ got_line b.now) }
+{
     if b.len() < 8 {
         return driver::bad(stdout);
     }
@@ -42,7 +54,10 @@ fn get(stdout: &mut Stdout, b: &[u8]) -> fmt::Result {
     )
 }
 
-fn element_in(sort: u64, n: u64) -> Element {
+#[tactic(auto, unfolding(crate::specs::Records::element_of))]
+fn element_in(sort: u64, n: u64) -> Element
+    ensures { result ≡ element_of sort n }
+{
     match sort {
         0 => Element::Signed(wire::signed(Width::Eight, n)),
         1 => Element::Unsigned(n),
@@ -53,7 +68,9 @@ fn element_in(sort: u64, n: u64) -> Element {
 }
 
 // code (4), place (4), sort (1), value (8), content
-fn set(stdout: &mut Stdout, b: &mut [u8]) -> fmt::Result {
+fn set(stdout: &mut Stdout, b: &mut [u8]) -> fmt::Result
+    ensures { OnOk result (stdout.new.said ≡ stdout.old.said ++ set_line b.old) }
+{
     if b.len() < 17 {
         return driver::bad(stdout);
     }
@@ -72,14 +89,7 @@ fn set(stdout: &mut Stdout, b: &mut [u8]) -> fmt::Result {
 struct Elements;
 
 impl Program for Elements {
-    ghost use Rattle.std.specs.Prelude.{◌≡◌, refl};
-    ghost use Rattle.std.proofs.Common.{◌∙◌};
-
-    ghost moves = { λ p q. p ≡ q };
-
-    ghost none = { λ p. refl };
-
-    ghost some_then_some = { λ p q r e f. e ∙ f };
+    ghost done = { λ x c s. says (printed c s) x };
 
     fn record(&mut self, stdout: &mut Stdout, letter: u8, bytes: &mut [u8]) -> fmt::Result {
         match letter {
@@ -91,5 +101,7 @@ impl Program for Elements {
 }
 
 fn main() -> fmt::Result {
-    driver::run(&mut Elements)
+    let mut input = records::room();
+    let n = io::read_full(STDIN, &mut input);
+    driver::run(&mut Elements, &mut Stdout::new(), &input[..n])
 }

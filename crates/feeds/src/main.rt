@@ -1,7 +1,8 @@
 // Calls of the fed reader, as lines on standard input say (docs/CALLS.md).
 #![tactic(auto)]
 
-ghost use Rattle.std.specs.Prelude.{◌≤◌, length};
+ghost use Rattle.std.specs.Prelude.{◌≡◌, ◌≤◌, List, ℕ, length, Some, OnOk};
+ghost use Rattle.feeds.specs.Records.{form_in, phase_in, reader_in, progress_word, fresh_done, piece_done, state_done, done};
 
 use driver::{Answer, Program, Stdout};
 use item::Form;
@@ -9,11 +10,16 @@ use reader::{Phase, Progress, Reader};
 use std::fmt;
 use std::fmt::Write;
 
+// standard input, as a file descriptor
+const STDIN: i32 = 0;
+
 // How far a reader is.
 #[derive(Clone, Copy)]
 struct Status(Progress);
 
 impl fmt::Display for Status {
+    ghost output = { λ s. Some (progress_word s.0) };
+
     fn fmt<W: fmt::Write>(&self, f: &mut fmt::Formatter<W>) -> fmt::Result {
         f.write_str(match self.0 {
             Progress::More => "more",
@@ -22,7 +28,9 @@ impl fmt::Display for Status {
     }
 }
 
-fn form_in(kind: u64) -> Form {
+fn form_in(kind: u64) -> Form
+    ensures { result ≡ form_in kind }
+{
     match kind {
         0 => Form::Good,
         _ => Form::Lean,
@@ -30,7 +38,9 @@ fn form_in(kind: u64) -> Form {
 }
 
 // kind (1), code (4), left (4), value (4)
-fn phase_in(b: &[u8]) -> Phase {
+fn phase_in(b: &[u8]) -> Phase
+    ensures { result ≡ phase_in b.now }
+{
     let code = records::field_at::<4>(b, 1) as u32;
     let left = records::field_at::<4>(b, 5) as usize;
     let value = records::field_at::<4>(b, 9) as usize;
@@ -45,6 +55,7 @@ fn phase_in(b: &[u8]) -> Phase {
 // form (1), N (4), read (4), level (4), phase (13), sixteen counts (4 each)
 fn reader_in(b: &[u8]) -> Reader
     requires { 90 ≤ length b.now }
+    ensures { result ≡ reader_in b.now }
 {
     let mut awaited = [0u32; 16];
     records::words_in(&b[26..], &mut awaited);
@@ -66,7 +77,9 @@ struct Feeds {
 
 impl Feeds {
     // N (4)
-    fn fresh(&mut self, stdout: &mut Stdout, form: Form, b: &[u8]) -> fmt::Result {
+    fn fresh(&mut self, stdout: &mut Stdout, form: Form, b: &[u8]) -> fmt::Result
+        ensures { OnOk result ((self.new, stdout.new.said) ≡ fresh_done form (self.old, stdout.old.said) b.now) }
+    {
         if b.len() < 4 {
             return driver::bad(stdout);
         }
@@ -78,7 +91,9 @@ impl Feeds {
         )
     }
 
-    fn piece(&mut self, stdout: &mut Stdout, b: &[u8]) -> fmt::Result {
+    fn piece(&mut self, stdout: &mut Stdout, b: &[u8]) -> fmt::Result
+        ensures { OnOk result ((self.new, stdout.new.said) ≡ piece_done (self.old, stdout.old.said) b.now) }
+    {
         let fed = reader::feed(self.reader, b);
         self.reader = fed.reader;
         writeln!(
@@ -89,7 +104,9 @@ impl Feeds {
         )
     }
 
-    fn state(&mut self, stdout: &mut Stdout, b: &[u8]) -> fmt::Result {
+    fn state(&mut self, stdout: &mut Stdout, b: &[u8]) -> fmt::Result
+        ensures { OnOk result ((self.new, stdout.new.said) ≡ state_done (self.old, stdout.old.said) b.now) }
+    {
         if b.len() < 90 {
             return driver::bad(stdout);
         }
@@ -108,12 +125,7 @@ impl Feeds {
 }
 
 impl Program for Feeds {
-    // Records set states by hand, so that any may follow any.
-    ghost moves = { λ p q. Unit {0} };
-
-    ghost none = { λ p. tt };
-
-    ghost some_then_some = { λ p q r e f. tt };
+    ghost done = { done };
 
     fn record(&mut self, stdout: &mut Stdout, letter: u8, bytes: &mut [u8]) -> fmt::Result {
         match letter {
@@ -128,5 +140,7 @@ impl Program for Feeds {
 
 fn main() -> fmt::Result {
     let reader = reader::fresh_reader(Form::Good, 0);
-    driver::run(&mut Feeds { reader })
+    let mut input = records::room();
+    let n = io::read_full(STDIN, &mut input);
+    driver::run(&mut Feeds { reader }, &mut Stdout::new(), &input[..n])
 }

@@ -1,7 +1,10 @@
 // Calls of the fed frame reader and of outboxes, as lines on standard input say (docs/CALLS.md).
 #![tactic(auto)]
 
-ghost use Rattle.std.specs.Prelude.{◌≤◌, length};
+ghost use Rattle.std.specs.Prelude.{◌≡◌, ◌≤◌, ◌++◌, length, OnOk};
+ghost use Rattle.frames.specs.Event.{event_in};
+ghost use Rattle.messages.specs.Records.{unused, box_in, event_line, is_last, fresh_done, piece_done, end_done, written_line, box_done};
+ghost use Rattle.messages.specs.Records.{append_to, append_line, append_done, next_done, drop_done, done};
 
 use driver::{Answer, Program, Stdout};
 use frame::Header;
@@ -11,10 +14,15 @@ use refusal::Refusal;
 use std::fmt;
 use std::fmt::Write;
 
+// standard input, as a file descriptor
+const STDIN: i32 = 0;
+
 // ---- the frame reader
 
 // What a feed reached, and the bytes that it consumed.
-fn event_line(stdout: &mut Stdout, event: Result<Event, Refusal>, consumed: usize) -> fmt::Result {
+fn event_line(stdout: &mut Stdout, event: Result<Event, Refusal>, consumed: usize) -> fmt::Result
+    ensures { OnOk result (stdout.new.said ≡ stdout.old.said ++ event_line (event_in event) consumed) }
+{
     match event {
         Ok(Event::More) => writeln!(stdout, "more\t{consumed}"),
         Ok(Event::Header(h, n)) => {
@@ -31,14 +39,23 @@ fn event_line(stdout: &mut Stdout, event: Result<Event, Refusal>, consumed: usiz
     }
 }
 
+// Whether nothing of a piece is left to feed: all of it is consumed, or it is refused.
+fn is_last(event: Result<Event, Refusal>) -> bool
+    ensures { result ≡ is_last (event_in event) }
+{
+    matches!(event, Ok(Event::More) | Err(_))
+}
+
 // Feeds of a piece, at most. Each header or text that is reached consumes a byte, and at most one end follows it,
-// so that a piece of half as many bytes needs no more.
+// so that a piece of 524,288 bytes needs no more, and a line says fewer.
 const FEEDS: usize = 1_048_578;
 
 // ---- a frame written
 
 // header (10), room (2), text
-fn write(stdout: &mut Stdout, b: &[u8]) -> fmt::Result {
+fn write(stdout: &mut Stdout, b: &[u8]) -> fmt::Result
+    ensures { OnOk result (stdout.new.said ≡ stdout.old.said ++ written_line b.now) }
+{
     if b.len() < 12 {
         return driver::bad(stdout);
     }
@@ -63,14 +80,19 @@ struct Outbox {
 }
 
 impl Outbox {
-    fn empty() -> Outbox {
+    #[tactic(auto, unfolding(crate::specs::Records::unused))]
+    fn empty() -> Outbox
+        ensures { (result.bytes ≡ unused) × (result.used ≡ 0) }
+    {
         Outbox {
             bytes: [0xEE; 256],
             used: 0,
         }
     }
 
-    fn append(&mut self, stdout: &mut Stdout, frame: &[u8]) -> fmt::Result {
+    fn append(&mut self, stdout: &mut Stdout, frame: &[u8]) -> fmt::Result
+        ensures { OnOk result ((self.new ≡ append_to self.old frame.now) × (stdout.new.said ≡ stdout.old.said ++ append_line self.old frame.now)) }
+    {
         let answer = outbox::append(&mut self.bytes, self.used, frame);
         if let Ok(used) = answer {
             self.used = used;
@@ -84,6 +106,7 @@ impl Outbox {
 // used (4), then its bytes, EE behind them
 fn outbox_in(b: &[u8]) -> Outbox
     requires { 4 ≤ length b.now }
+    ensures { result ≡ box_in b.now }
 {
     let mut made = Outbox::empty();
     made.used = records::field_at::<4>(b, 0) as usize;
@@ -101,19 +124,23 @@ struct Messages {
 }
 
 impl Messages {
-    fn fresh(&mut self, stdout: &mut Stdout) -> fmt::Result {
+    fn fresh(&mut self, stdout: &mut Stdout) -> fmt::Result
+        ensures { OnOk result ((self.new, stdout.new.said) ≡ fresh_done (self.old, stdout.old.said)) }
+    {
         self.reader = frames::fresh_reader();
         stdout.write_str("fresh\n")
     }
 
     // A piece is fed until nothing of it is left to reach.
-    fn piece(&mut self, stdout: &mut Stdout, b: &[u8]) -> fmt::Result {
+    fn piece(&mut self, stdout: &mut Stdout, b: &[u8]) -> fmt::Result
+        ensures { OnOk result ((self.new, stdout.new.said) ≡ piece_done (self.old, stdout.old.said) b.now) }
+    {
         let mut rest = b;
         for _ in 0..FEEDS {
             let fed = frames::feed(self.reader, rest);
             self.reader = fed.reader;
             event_line(stdout, fed.event, fed.consumed)?;
-            if matches!(fed.event, Ok(Event::More) | Err(_)) {
+            if is_last(fed.event) {
                 break;
             }
             rest = &rest[fed.consumed.min(rest.len())..];
@@ -121,7 +148,9 @@ impl Messages {
         Ok(())
     }
 
-    fn end(&mut self, stdout: &mut Stdout) -> fmt::Result {
+    fn end(&mut self, stdout: &mut Stdout) -> fmt::Result
+        ensures { OnOk result ((self.new, stdout.new.said) ≡ end_done (self.old, stdout.old.said)) }
+    {
         writeln!(
             stdout,
             "stream\t{}",
@@ -130,7 +159,9 @@ impl Messages {
     }
 
     // which (1), used (4), its bytes
-    fn make(&mut self, stdout: &mut Stdout, b: &[u8]) -> fmt::Result {
+    fn make(&mut self, stdout: &mut Stdout, b: &[u8]) -> fmt::Result
+        ensures { OnOk result ((self.new, stdout.new.said) ≡ box_done (self.old, stdout.old.said) b.now) }
+    {
         if b.len() < 5 {
             return driver::bad(stdout);
         }
@@ -145,7 +176,9 @@ impl Messages {
     }
 
     // which (1), a frame
-    fn append(&mut self, stdout: &mut Stdout, b: &[u8]) -> fmt::Result {
+    fn append(&mut self, stdout: &mut Stdout, b: &[u8]) -> fmt::Result
+        ensures { OnOk result ((self.new, stdout.new.said) ≡ append_done (self.old, stdout.old.said) b.now) }
+    {
         match b {
             [] => driver::bad(stdout),
             [0, frame @ ..] => self.control.append(stdout, frame),
@@ -153,7 +186,9 @@ impl Messages {
         }
     }
 
-    fn next(&self, stdout: &mut Stdout) -> fmt::Result {
+    fn next(&self, stdout: &mut Stdout) -> fmt::Result
+        ensures { OnOk result ((self.now, stdout.new.said) ≡ next_done (self.now, stdout.old.said)) }
+    {
         let Messages { control, data, .. } = *self;
         let next = outbox::next(&control.bytes, control.used, &data.bytes, data.used);
         write!(stdout, "next\t{}", driver::number(next))?;
@@ -161,7 +196,9 @@ impl Messages {
         stdout.write_str("\n")
     }
 
-    fn drop_message(&mut self, stdout: &mut Stdout) -> fmt::Result {
+    fn drop_message(&mut self, stdout: &mut Stdout) -> fmt::Result
+        ensures { OnOk result ((self.new, stdout.new.said) ≡ drop_done (self.old, stdout.old.said)) }
+    {
         let Messages {
             mut control,
             mut data,
@@ -191,12 +228,7 @@ impl Messages {
 }
 
 impl Program for Messages {
-    // Records set states by hand, so that any may follow any.
-    ghost moves = { λ p q. Unit {0} };
-
-    ghost none = { λ p. tt };
-
-    ghost some_then_some = { λ p q r e f. tt };
+    ghost done = { done };
 
     fn record(&mut self, stdout: &mut Stdout, letter: u8, bytes: &mut [u8]) -> fmt::Result {
         match letter {
@@ -219,5 +251,7 @@ fn main() -> fmt::Result {
         control: Outbox::empty(),
         data: Outbox::empty(),
     };
-    driver::run(&mut kept)
+    let mut input = records::room();
+    let n = io::read_full(STDIN, &mut input);
+    driver::run(&mut kept, &mut Stdout::new(), &input[..n])
 }

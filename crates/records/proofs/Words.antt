@@ -31,6 +31,15 @@ unfolding field_of
 words_more s at h =
     four (drop at s) (omega (arith, length-drop at s)) ∙ ap (λ (t : List ℕ). number_of (take 4 (drop at s)) ∷ words_in t) (drop-drop 4 at s)
 
+-- as many numbers as there are four bytes
+pub words_length : (s : List ℕ) → length (words_in s) ≡ length s / 4
+unfolding words_in
+words_length [] = refl
+words_length (a ∷ []) = refl
+words_length (a ∷ b ∷ []) = refl
+words_length (a ∷ b ∷ c ∷ []) = refl
+words_length (a ∷ b ∷ c ∷ d ∷ s) = let e = words_length s in omega (arith, e)
+
 -- one number stored
 pub turn : (s out : List ℕ) (i x : ℕ) → i < length s / 4 → x ≡ field_of 4 s (4 * i)
     → sets (set out i x) (i + 1) (words_in (drop (4 * (i + 1)) s)) ≡ sets out i (words_in (drop (4 * i) s))
@@ -39,7 +48,7 @@ turn s out i x h e =
     rw (words_more s (4 * i) (omega arith), k, add-one i, e)
 
 -- what is stored behind the end changes nothing
-stored_behind : (out vs : List ℕ) (i : ℕ) → length out ≤ i → sets out i vs ≡ out
+pub stored_behind : (out vs : List ℕ) (i : ℕ) → length out ≤ i → sets out i vs ≡ out
 stored_behind out [] i h = refl
 stored_behind out (v ∷ vs) i h = rw (set_out out i v h) (stored_behind out vs (suc i) (omega arith))
 

@@ -1,7 +1,11 @@
 // Events and states of a session, as lines on standard input say (docs/CALLS.md).
 #![tactic(auto)]
 
-ghost use Rattle.std.specs.Prelude.{◌≤◌, length};
+ghost use Rattle.std.specs.Prelude.{◌≡◌, ◌≤◌, ◌++◌, length, Some, OnOk};
+ghost use Rattle.message.specs.Send.{send_in};
+ghost use Rattle.sessions.specs.Records.{slots_first, flags_fields, state_fields, sent_fields, wish_in, timer_in, phase_in, slot_in, changed_line};
+ghost use Rattle.sessions.specs.Records.{event_done, make_done, receive_done, wish_done, timer_done};
+ghost use Rattle.sessions.specs.Records.{number_done, phase_done, linktest_done, slot_done, flag_done, done};
 
 use driver::{Program, Stdout};
 use frame::Header;
@@ -10,6 +14,9 @@ use session::{Event, Phase, Received, Session, Timer, Wish};
 use slots::{Linktest, Slot};
 use std::fmt;
 use std::fmt::Write;
+
+// standard input, as a file descriptor
+const STDIN: i32 = 0;
 
 // ---- a state and a message
 
@@ -21,6 +28,8 @@ struct Slots<'a> {
 }
 
 impl fmt::Display for Slots<'_> {
+    ghost output = { λ s. Some (slots_first s.word.now s.slots.now 32) };
+
     fn fmt<W: fmt::Write>(&self, f: &mut fmt::Formatter<W>) -> fmt::Result {
         for (place, x) in self.slots.iter().enumerate() {
             if x.taken {
@@ -40,6 +49,8 @@ impl fmt::Display for Slots<'_> {
 struct Flags<'a>(&'a [bool; 128]);
 
 impl fmt::Display for Flags<'_> {
+    ghost output = { λ x. Some (flags_fields x.0.now) };
+
     fn fmt<W: fmt::Write>(&self, f: &mut fmt::Formatter<W>) -> fmt::Result {
         f.write_str("\tflags")?;
         for (stream, flag) in self.0.iter().enumerate() {
@@ -55,6 +66,8 @@ impl fmt::Display for Flags<'_> {
 struct State<'a>(&'a Session);
 
 impl fmt::Display for State<'_> {
+    ghost output = { λ s. Some (state_fields s.0.now) };
+
     fn fmt<W: fmt::Write>(&self, f: &mut fmt::Formatter<W>) -> fmt::Result {
         let link = self.0.link;
         let device = &self.0.device;
@@ -79,7 +92,9 @@ impl fmt::Display for State<'_> {
     }
 }
 
-fn sent_fields(stdout: &mut Stdout, send: Option<Message>, text: &[u8]) -> fmt::Result {
+fn sent_fields(stdout: &mut Stdout, send: Option<Message>, text: &[u8]) -> fmt::Result
+    ensures { OnOk result (stdout.new.said ≡ stdout.old.said ++ sent_fields (send_in send) text.now) }
+{
     let mut out = [0u8; 32768];
     match session::write_message(send, text, &mut out) {
         Ok(n) if 0 < n && n <= out.len() => {
@@ -96,6 +111,7 @@ fn sent_fields(stdout: &mut Stdout, send: Option<Message>, text: &[u8]) -> fmt::
 // wish (1), W (1), stream (1), function (1), flag (1), system bytes (4)
 fn wish_in(b: &[u8]) -> Wish
     requires { 9 ≤ length b.now }
+    ensures { result ≡ wish_in b.now }
 {
     let stream = b[2];
     let system = records::field_at::<4>(b, 5) as u32;
@@ -114,6 +130,7 @@ fn wish_in(b: &[u8]) -> Wish
 // timer (1), system bytes (4)
 fn timer_in(b: &[u8]) -> Timer
     requires { 5 ≤ length b.now }
+    ensures { result ≡ timer_in b.now }
 {
     match b[0] {
         3 => Timer::T3(records::field_at::<4>(b, 1) as u32),
@@ -123,9 +140,20 @@ fn timer_in(b: &[u8]) -> Timer
     }
 }
 
+fn phase_in(kind: u8) -> Phase
+    ensures { result ≡ phase_in kind }
+{
+    match kind {
+        0 => Phase::NotConnected,
+        1 => Phase::NotSelected,
+        _ => Phase::Selected,
+    }
+}
+
 // taken (1), system bytes (4), stream (1), function (1)
 fn slot_in(b: &[u8]) -> Slot
     requires { 7 ≤ length b.now }
+    ensures { result ≡ slot_in b.now }
 {
     Slot {
         taken: b[0] == 1,
@@ -143,7 +171,9 @@ struct Sessions {
 }
 
 impl Sessions {
-    fn event(&mut self, stdout: &mut Stdout, e: Event, text: &[u8]) -> fmt::Result {
+    fn event(&mut self, stdout: &mut Stdout, e: Event, text: &[u8]) -> fmt::Result
+        ensures { OnOk result ((self.new, stdout.new.said) ≡ event_done (self.old, stdout.old.said) e text.now) }
+    {
         let stepped = session::step(self.session, e, text);
         self.session = stepped.session;
         let number = match stepped.answer {
@@ -156,7 +186,9 @@ impl Sessions {
     }
 
     // device ID (2)
-    fn make(&mut self, stdout: &mut Stdout, b: &[u8]) -> fmt::Result {
+    fn make(&mut self, stdout: &mut Stdout, b: &[u8]) -> fmt::Result
+        ensures { OnOk result ((self.new, stdout.new.said) ≡ make_done (self.old, stdout.old.said) b.now) }
+    {
         if b.len() < 2 {
             return driver::bad(stdout);
         }
@@ -171,7 +203,9 @@ impl Sessions {
     }
 
     // header (10), text
-    fn receive(&mut self, stdout: &mut Stdout, b: &[u8]) -> fmt::Result {
+    fn receive(&mut self, stdout: &mut Stdout, b: &[u8]) -> fmt::Result
+        ensures { OnOk result ((self.new, stdout.new.said) ≡ receive_done (self.old, stdout.old.said) b.now) }
+    {
         if b.len() < 10 {
             return driver::bad(stdout);
         }
@@ -180,14 +214,18 @@ impl Sessions {
     }
 
     // a wish (9), text
-    fn wish(&mut self, stdout: &mut Stdout, b: &[u8]) -> fmt::Result {
+    fn wish(&mut self, stdout: &mut Stdout, b: &[u8]) -> fmt::Result
+        ensures { OnOk result ((self.new, stdout.new.said) ≡ wish_done (self.old, stdout.old.said) b.now) }
+    {
         if b.len() < 9 {
             return driver::bad(stdout);
         }
         self.event(stdout, Event::Wish(wish_in(b)), &b[9..])
     }
 
-    fn timer(&mut self, stdout: &mut Stdout, b: &[u8]) -> fmt::Result {
+    fn timer(&mut self, stdout: &mut Stdout, b: &[u8]) -> fmt::Result
+        ensures { OnOk result ((self.new, stdout.new.said) ≡ timer_done (self.old, stdout.old.said) b.now) }
+    {
         if b.len() < 5 {
             return driver::bad(stdout);
         }
@@ -195,7 +233,9 @@ impl Sessions {
     }
 
     // The state was changed by hand.
-    fn changed(&self, stdout: &mut Stdout) -> fmt::Result {
+    fn changed(&self, stdout: &mut Stdout) -> fmt::Result
+        ensures { OnOk result (stdout.new.said ≡ stdout.old.said ++ changed_line self.now.session) }
+    {
         let word = if allowed::allows_state(self.session) {
             "allowed"
         } else {
@@ -205,7 +245,9 @@ impl Sessions {
     }
 
     // number (4)
-    fn number(&mut self, stdout: &mut Stdout, b: &[u8]) -> fmt::Result {
+    fn number(&mut self, stdout: &mut Stdout, b: &[u8]) -> fmt::Result
+        ensures { OnOk result ((self.new, stdout.new.said) ≡ number_done (self.old, stdout.old.said) b.now) }
+    {
         if b.len() < 4 {
             return driver::bad(stdout);
         }
@@ -217,19 +259,21 @@ impl Sessions {
     }
 
     // phase (1)
-    fn phase(&mut self, stdout: &mut Stdout, b: &[u8]) -> fmt::Result {
+    fn phase(&mut self, stdout: &mut Stdout, b: &[u8]) -> fmt::Result
+        ensures { OnOk result ((self.new, stdout.new.said) ≡ phase_done (self.old, stdout.old.said) b.now) }
+    {
         let phase = match b {
             [] => return driver::bad(stdout),
-            [0, ..] => Phase::NotConnected,
-            [1, ..] => Phase::NotSelected,
-            _ => Phase::Selected,
+            [kind, ..] => phase_in(*kind),
         };
         self.session.link = self.session.link.with_phase(phase);
         self.changed(stdout)
     }
 
     // running (1), system bytes (4)
-    fn linktest(&mut self, stdout: &mut Stdout, b: &[u8]) -> fmt::Result {
+    fn linktest(&mut self, stdout: &mut Stdout, b: &[u8]) -> fmt::Result
+        ensures { OnOk result ((self.new, stdout.new.said) ≡ linktest_done (self.old, stdout.old.said) b.now) }
+    {
         if b.len() < 5 {
             return driver::bad(stdout);
         }
@@ -242,7 +286,9 @@ impl Sessions {
     }
 
     // which (1), place (1), a slot (7)
-    fn slot(&mut self, stdout: &mut Stdout, b: &[u8]) -> fmt::Result {
+    fn slot(&mut self, stdout: &mut Stdout, b: &[u8]) -> fmt::Result
+        ensures { OnOk result ((self.new, stdout.new.said) ≡ slot_done (self.old, stdout.old.said) b.now) }
+    {
         if b.len() < 9 {
             return driver::bad(stdout);
         }
@@ -258,7 +304,9 @@ impl Sessions {
     }
 
     // stream (1), flag (1)
-    fn flag(&mut self, stdout: &mut Stdout, b: &[u8]) -> fmt::Result {
+    fn flag(&mut self, stdout: &mut Stdout, b: &[u8]) -> fmt::Result
+        ensures { OnOk result ((self.new, stdout.new.said) ≡ flag_done (self.old, stdout.old.said) b.now) }
+    {
         if b.len() < 2 {
             return driver::bad(stdout);
         }
@@ -268,12 +316,7 @@ impl Sessions {
 }
 
 impl Program for Sessions {
-    // Records set states by hand, so that any may follow any.
-    ghost moves = { λ p q. Unit {0} };
-
-    ghost none = { λ p. tt };
-
-    ghost some_then_some = { λ p q r e f. tt };
+    ghost done = { done };
 
     fn record(&mut self, stdout: &mut Stdout, letter: u8, bytes: &mut [u8]) -> fmt::Result {
         match letter {
@@ -293,5 +336,7 @@ impl Program for Sessions {
 
 fn main() -> fmt::Result {
     let session = session::new_session(0).session;
-    driver::run(&mut Sessions { session })
+    let mut input = records::room();
+    let n = io::read_full(STDIN, &mut input);
+    driver::run(&mut Sessions { session }, &mut Stdout::new(), &input[..n])
 }

@@ -1,13 +1,22 @@
 // Whole texts judged, measured, read and written, as lines on standard input say (docs/CALLS.md).
 #![tactic(auto)]
 
+ghost use Rattle.std.specs.Prelude.{◌≡◌, ◌++◌, OnOk};
+ghost use Rattle.driver.specs.Input.{says};
+ghost use Rattle.texts.specs.Records.{judged_line, read_line, part_line, written_line, lean_line, printed};
+
 use driver::{Answer, Program, Stdout};
 use item::Form;
 use rows::Row;
 use std::fmt;
 use std::fmt::Write;
 
-fn judge(stdout: &mut Stdout, t: &[u8]) -> fmt::Result {
+// standard input, as a file descriptor
+const STDIN: i32 = 0;
+
+fn judge(stdout: &mut Stdout, t: &[u8]) -> fmt::Result
+    ensures { OnOk result (stdout.new.said ≡ stdout.old.said ++ judged_line t.now) }
+{
     let good = driver::number(text::judge(t));
     let lean = driver::number(text::judge_as(Form::Lean, t));
     write!(stdout, "judged\t{good}\t{lean}")?;
@@ -18,7 +27,9 @@ fn judge(stdout: &mut Stdout, t: &[u8]) -> fmt::Result {
 }
 
 // room (1), text
-fn read(stdout: &mut Stdout, b: &[u8]) -> fmt::Result {
+fn read(stdout: &mut Stdout, b: &[u8]) -> fmt::Result
+    ensures { OnOk result (stdout.new.said ≡ stdout.old.said ++ read_line b.now) }
+{
     let Some((room, t)) = b.split_first() else {
         return driver::bad(stdout);
     };
@@ -32,7 +43,9 @@ fn read(stdout: &mut Stdout, b: &[u8]) -> fmt::Result {
 }
 
 // code (4), length (4), place (4), text
-fn part(stdout: &mut Stdout, b: &[u8]) -> fmt::Result {
+fn part(stdout: &mut Stdout, b: &[u8]) -> fmt::Result
+    ensures { OnOk result (stdout.new.said ≡ stdout.old.said ++ part_line b.now) }
+{
     if b.len() < 12 {
         return driver::bad(stdout);
     }
@@ -48,7 +61,9 @@ fn part(stdout: &mut Stdout, b: &[u8]) -> fmt::Result {
 }
 
 // room (2), count (1), so many numbers (4 each), content
-fn write(stdout: &mut Stdout, b: &[u8]) -> fmt::Result {
+fn write(stdout: &mut Stdout, b: &[u8]) -> fmt::Result
+    ensures { OnOk result (stdout.new.said ≡ stdout.old.said ++ written_line b.now) }
+{
     let count = records::field_at::<1>(b, 2) as usize;
     let from = 3 + 4 * count;
     if b.len() < from {
@@ -68,7 +83,9 @@ fn write(stdout: &mut Stdout, b: &[u8]) -> fmt::Result {
 }
 
 // numbers (1), room (2), text
-fn lean(stdout: &mut Stdout, b: &[u8]) -> fmt::Result {
+fn lean(stdout: &mut Stdout, b: &[u8]) -> fmt::Result
+    ensures { OnOk result (stdout.new.said ≡ stdout.old.said ++ lean_line b.now) }
+{
     if b.len() < 3 {
         return driver::bad(stdout);
     }
@@ -90,14 +107,7 @@ fn lean(stdout: &mut Stdout, b: &[u8]) -> fmt::Result {
 struct Texts;
 
 impl Program for Texts {
-    ghost use Rattle.std.specs.Prelude.{◌≡◌, refl};
-    ghost use Rattle.std.proofs.Common.{◌∙◌};
-
-    ghost moves = { λ p q. p ≡ q };
-
-    ghost none = { λ p. refl };
-
-    ghost some_then_some = { λ p q r e f. e ∙ f };
+    ghost done = { λ x c s. says (printed c s) x };
 
     fn record(&mut self, stdout: &mut Stdout, letter: u8, bytes: &mut [u8]) -> fmt::Result {
         match letter {
@@ -112,5 +122,7 @@ impl Program for Texts {
 }
 
 fn main() -> fmt::Result {
-    driver::run(&mut Texts)
+    let mut input = records::room();
+    let n = io::read_full(STDIN, &mut input);
+    driver::run(&mut Texts, &mut Stdout::new(), &input[..n])
 }

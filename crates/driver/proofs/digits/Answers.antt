@@ -1,14 +1,12 @@
 -- What is printed behind the tab: the digits, or the number of the refusal.
 use Rattle.std.specs.Prelude.{◌≡◌, ℕ, ◌*◌, Bool, true, false, cond, List, [], ◌∷◌, ◌++◌, length, take, drop, decimal}
-use Rattle.std.specs.Fmt.{WritesInCalls}
 use Rattle.std.proofs.Common.{refl, sym, ap, ◌∙◌, arith, append_assoc}
-use Rattle.std.proofs.lemmas.Fmt.{contents_after_writes}
 use Rattle.std.proofs.lemmas.List.{take_at}
 use Rattle.std.proofs.lemmas.Result.{on_ok_weaker}
 use Rattle.refusal.specs.Answer.{Counted, Is, Refused}
 use Rattle.hexes.specs.Hex.{hex_of, printed_of}
 use Rattle.hexes.proofs.Laws.{hex_length}
-use Rattle.driver.specs.declared.stdout.Stdout.{Stdout}
+use Rattle.driver.proofs.Fields.{wrote}
 use Rattle.driver.proofs.digits.Goals as goal
 
 abbrev counted : Counted → ℕ
@@ -30,10 +28,6 @@ shown false s old out n e f =
 refused : (b : Bool) (s : List ℕ) (k : ℕ) → Refused k ≡ cond b (Refused 17) (Is (2 * length s)) → decimal k ≡ cond b (decimal 17) (hex_of s)
 refused true s k e = ap decimal (ap counted e)
 refused false s k e = let z : ◌≡◌ {A = ℕ} 1 0 = ap is_refused e in absurd (omega arith)
-
--- what was handed over in parts
-wrote : (w v : Stdout) (bs : List ℕ) → WritesInCalls (λ s l t. t.said ≡ s.said ++ l) w bs v → v.said ≡ w.said ++ bs
-wrote w v bs p = contents_after_writes (λ s l t. t.said ≡ s.said ++ l) (λ s. s.said) (λ s l t e. e) w bs v p
 
 pub returns-in_ok-write_str-in-Ok : goal.returns-in_ok-write_str-in-Ok
 unfolding printed_of

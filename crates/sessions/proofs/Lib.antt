@@ -1,0 +1,4 @@
+pub mod Printed
+pub mod Printing
+pub mod Sent
+pub mod Kept
