@@ -2,6 +2,7 @@
 use mathlib.Core.Path.{◌≡◌, sym, subst, ◌∙◌}
 use Rattle.std.specs.Prelude.{ℕ, List, Option, Some, IfSome, Result, Ok, Err, OnOk, IsOk}
 use Rattle.std.specs.Fmt.{IsPlainFormatter, formatter_writer}
+use Rattle.std.proofs.lemmas.Result.{IfOk-at_ok}
 use Rattle.refusal.proofs.Written.{Holds, one_writing}
 use Rattle.driver.specs.Printed.{answer_fields}
 use Rattle.driver.proofs.number.Reads as number_reads
@@ -65,5 +66,5 @@ record_one P l g t κs a r r' s s' p q ok ok' = from_ok r p ok ∙ sym (from_ok 
 
 run_one :
     (P : _) (l : _) (g : _) (t : _) (κs : _) (a : _) (r r' : _) (s s' : _) → run_reads.Post P l g t κs a r s → run_reads.Post P l g t κs a r' s'
-    → IsOk r → IsOk r' → ◌≡◌ {A = P.Denot × List ℕ} (s.0.now, s.1.0.now.said) (s'.0.now, s'.1.0.now.said)
-run_one P l g t κs a r r' s s' p q ok ok' = from_ok r p ok ∙ sym (from_ok r' q ok')
+    → (o o' : _) → r ≡ Ok o → r' ≡ Ok o' → ◌≡◌ {A = P.Denot × List ℕ} (s.0.now, o.said) (s'.0.now, o'.said)
+run_one P l g t κs a r r' s s' p q o o' e e' = IfOk-at_ok _ e p ∙ sym (IfOk-at_ok _ e' q)

@@ -1,14 +1,12 @@
 -- What a line is that is a record, or none; and what the lines from a place on do.
-use Rattle.std.proofs.Common.{◌≡◌, ◌<◌, ◌+◌, ◌-◌, ◌∙◌, ℕ, true, false, eqb, Result, OnOk, IsOk, refl, sym, ap}
-use Rattle.std.proofs.Common.{List, [], ◌∷◌, ◌++◌, length, take, drop, map}
-use borrow.Author.Tests.{lt-ltb}
+use Rattle.std.proofs.Common.{◌≡◌, ◌<◌, ◌+◌, ◌-◌, ◌∙◌, ℕ, true, false, eqb, sym, ap}
+use Rattle.std.proofs.Common.{List, ◌∷◌, ◌++◌, length, take, drop, map}
 use Rattle.hexes.specs.Hex.{is_hex, bytes_in}
 use Rattle.records.specs.Fields.{line_end}
 use Rattle.records.specs.Lines.{lines_of}
 use Rattle.records.proofs.Lines.{lines_from}
 use Rattle.driver.specs.Printed.{bad_record}
-use Rattle.driver.proofs.Fields.{if_ok}
-use Rattle.driver.specs.Input.{Line, Prints, Record, line_of, too_much, input_of, line_done, lines_done}
+use Rattle.driver.specs.Input.{Line, Prints, Record, line_of, line_done, lines_done}
 
 -- a line of these bytes, which is no comment
 module _ {l : List ℕ} (c : ℕ) (s : List ℕ) (e : l ≡ c ∷ s) (n : eqb c 0x23 ≡ false) where
@@ -18,9 +16,6 @@ module _ {l : List ℕ} (c : ℕ) (s : List ℕ) (e : l ≡ c ∷ s) (n : eqb c 
   pub is_bad : is_hex s ≡ false → line_of l ≡ Prints bad_record
   is_bad h = ap line_of e ∙ rw (n, h)
 
-is_long : (s : List ℕ) → 1048575 < length s → input_of s ≡ Prints too_much ∷ []
-is_long s h = rw (lt-ltb 1048575 (length s) h)
-
 module _ {P : Type 0} (done : P × List ℕ → ℕ → List ℕ → P × List ℕ) (x : P × List ℕ) where
   -- where this is all that a line prints
   pub only : {l : Line} {s t : List ℕ} → l ≡ Prints s → t ≡ x.1 ++ s → (x.0, t) ≡ line_done done x l
@@ -28,11 +23,6 @@ module _ {P : Type 0} (done : P × List ℕ → ℕ → List ℕ → P × List �
 
   pub as_record : {l : Line} {c : ℕ} {s t : List ℕ} {y : P × List ℕ} → l ≡ Record c s → t ≡ s → y ≡ done x c t → y ≡ line_done done x l
   as_record {c = c} e f d = d ∙ ap (done x c) f ∙ sym (ap (line_done done x) e)
-
-  pub much :
-      {A E : Type 0} (r : Result A E) (s t : List ℕ) → 1048575 < length s → (IsOk r → t ≡ x.1 ++ too_much)
-      → OnOk r ((x.0, t) ≡ lines_done done x (input_of s))
-  much r s t h w = if_ok r (λ ok. only refl (w ok) ∙ sym (ap (lines_done done x) (is_long s h)))
 
   -- the line at a place, and then those behind its end
   pub line_then :

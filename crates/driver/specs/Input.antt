@@ -9,7 +9,7 @@ pub data Line : Type 0 where
   Prints : List ℕ → Line
   Record : ℕ → List ℕ → Line
 
--- an empty line prints nothing, a comment itself, and one that is no record that it is not
+-- an empty line prints nothing, and a comment itself; of a line that is no record it is said that it is bad
 abbrev pub line_of : List ℕ → Line
 line_of [] = Prints []
 line_of (c ∷ s) =
@@ -32,7 +32,7 @@ keeps p s x = (p, x.1 ++ s)
 abbrev pub says : {P : Type 0} → List ℕ → P × List ℕ → P × List ℕ
 says s x = keeps x.0 s x
 
--- behind a record that must have so many bytes
+-- this, behind a record that has so many bytes; with fewer it is bad
 abbrev pub with_bytes : {P : Type 0} → ℕ → List ℕ → P × List ℕ → P × List ℕ → P × List ℕ
 with_bytes n s x y = cond (ltb (length s) n) (says bad_record x) y
 
@@ -45,3 +45,7 @@ line_done done x (Record c s) = done x c s
 abbrev pub lines_done : {P : Type 0} → (P × List ℕ → ℕ → List ℕ → P × List ℕ) → P × List ℕ → List Line → P × List ℕ
 lines_done done x [] = x
 lines_done done x (l ∷ ls) = lines_done done (line_done done x l) ls
+
+-- what is printed of an input by a program that begins as this
+abbrev pub printed_of : {P : Type 0} → (P × List ℕ → ℕ → List ℕ → P × List ℕ) → P → List ℕ → List ℕ
+printed_of done p s = (lines_done done (p, []) (input_of s)).1

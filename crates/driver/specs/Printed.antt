@@ -10,7 +10,7 @@ use Rattle.hexes.specs.Hex.{hex_of}
 abbrev pub field : List ℕ → List ℕ
 field s = 9 ∷ s
 
--- a word, and the fields behind it
+-- a line: a word, and the fields behind it
 abbrev pub line : List ℕ → List ℕ → List ℕ
 line word fields = word ++ fields ++ 10 ∷ []
 
@@ -18,7 +18,7 @@ line word fields = word ++ fields ++ 10 ∷ []
 abbrev pub bad_record : List ℕ
 bad_record = codes "bad record" ++ 10 ∷ []
 
--- what is printed of a record that must have so many bytes
+-- this, of a record that has so many bytes; with fewer it is bad
 abbrev pub if_bytes : ℕ → List ℕ → List ℕ → List ℕ
 if_bytes n s text = cond (ltb (length s) n) bad_record text
 

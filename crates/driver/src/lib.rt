@@ -3,7 +3,7 @@
 
 mod stdout;
 
-ghost use Rattle.std.specs.Prelude.{◌≡◌, ◌≤◌, ℕ, List, length, map, ◌++◌, OnOk};
+ghost use Rattle.std.specs.Prelude.{◌≡◌, ◌≤◌, ℕ, List, length, map, ◌++◌, [], IfOk, OnOk};
 ghost use Rattle.refusal.specs.Answer.{number_in};
 ghost use Rattle.records.specs.Lines.{lines_of};
 ghost use Rattle.driver.specs.Printed.{bad_record, hex_field, answer_fields};
@@ -22,7 +22,7 @@ pub trait Program {
     // The program and what standard output was handed, both behind a record of this letter and these bytes.
     ghost done: { Self × List ℕ → ℕ → List ℕ → Self × List ℕ };
 
-    /// Does what a record says, and prints a line. The record's line begins with this letter, and says these bytes.
+    /// Does what a record says, and prints what comes of it. The record's line begins with this letter, and says these bytes.
     fn record(&mut self, stdout: &mut Stdout, letter: u8, bytes: &mut [u8]) -> fmt::Result
         ensures { OnOk result ((self.new, stdout.new.said) ≡ done (self.old, stdout.old.said) letter bytes.old) };
 }
@@ -107,12 +107,15 @@ fn lines<P: Program>(program: &mut P, stdout: &mut Stdout, input: &[u8]) -> fmt:
     Ok(())
 }
 
-/// Gives a program the records of an input, one after another; it takes at most 1,048,575 bytes.
-pub fn run<P: Program>(program: &mut P, stdout: &mut Stdout, input: &[u8]) -> fmt::Result
-    ensures { OnOk result ((program.new, stdout.new.said) ≡ lines_done P.done (program.old, stdout.old.said) (input_of input.now)) }
+/// Gives a program the records of an input, one after another, and answers standard output behind them.
+pub fn run<P: Program>(program: &mut P, input: &[u8]) -> Result<Stdout, fmt::Error>
+    ensures { IfOk result (λ stdout. (program.new, stdout.said) ≡ lines_done P.done (program.old, []) (input_of input.now)) }
 {
+    let mut stdout = Stdout::new();
     if MOST < input.len() {
-        return stdout.write_str("too much input\n");
+        stdout.write_str("too much input\n")?;
+        return Ok(stdout);
     }
-    lines(program, stdout, input)
+    lines(program, &mut stdout, input)?;
+    Ok(stdout)
 }

@@ -20,8 +20,8 @@ impl Model for Stdout {
 }
 
 impl Stdout {
-    /// Before anything is printed.
-    pub fn new() -> Stdout
+    // Before anything is printed.
+    pub(crate) fn new() -> Stdout
         ensures { result.said ≡ [] }
     {
         Stdout {

@@ -11,7 +11,9 @@ use Rattle.element.specs.declared.Element.{Element}
 use Rattle.element.specs.declared.Element.TheVariants as E
 use Rattle.element.specs.Element.{got_of, set_of}
 use Rattle.element.specs.Got.{Got, Is, Refused}
+use Rattle.driver.specs.Input.{says}
 use Rattle.driver.specs.Printed.{field, line, bad_record, if_bytes, hex_field, refused_fields}
+use Rattle.elements.specs.declared.Elements.{Elements}
 
 -- ---- what is printed of an element: its sort, and its number or its bits
 
@@ -66,3 +68,10 @@ set_line s =
 -- by the letter, g or s
 abbrev pub printed : ℕ → List ℕ → List ℕ
 printed c s = cond (eqb c 0x67) (got_line s) (cond (eqb c 0x73) (set_line s) bad_record)
+
+-- nothing is kept from record to record
+abbrev pub begun : Elements
+begun = record {}
+
+abbrev pub done : Elements × List ℕ → ℕ → List ℕ → Elements × List ℕ
+done x c s = says (printed c s) x

@@ -1,9 +1,9 @@
 // Elements answered and set, as lines on standard input say (docs/CALLS.md).
 #![tactic(auto)]
 
-ghost use Rattle.std.specs.Prelude.{◌≡◌, ◌++◌, OnOk, Some};
-ghost use Rattle.driver.specs.Input.{says};
-ghost use Rattle.elements.specs.Records.{element_text, got_line, element_of, set_line, printed};
+ghost use Rattle.std.specs.Prelude.{◌≡◌, ◌++◌, IfOk, OnOk, Some};
+ghost use Rattle.driver.specs.Input.{printed_of};
+ghost use Rattle.elements.specs.Records.{element_text, got_line, element_of, set_line, begun, done};
 
 use driver::{Answer, Program, Stdout};
 use element::Element;
@@ -89,7 +89,7 @@ fn set(stdout: &mut Stdout, b: &mut [u8]) -> fmt::Result
 struct Elements;
 
 impl Program for Elements {
-    ghost done = { λ x c s. says (printed c s) x };
+    ghost done = { done };
 
     fn record(&mut self, stdout: &mut Stdout, letter: u8, bytes: &mut [u8]) -> fmt::Result {
         match letter {
@@ -100,8 +100,16 @@ impl Program for Elements {
     }
 }
 
+// What is printed of an input.
+fn answered(input: &[u8]) -> Result<Stdout, fmt::Error>
+    ensures { IfOk result (λ stdout. stdout.said ≡ printed_of done begun input.now) }
+{
+    driver::run(&mut Elements, input)
+}
+
 fn main() -> fmt::Result {
     let mut input = records::room();
     let n = io::read_full(STDIN, &mut input);
-    driver::run(&mut Elements, &mut Stdout::new(), &input[..n])
+    answered(&input[..n])?;
+    Ok(())
 }

@@ -88,6 +88,10 @@ state_done x s =
     let r = reader_in s in
     with_bytes 90 s x (keeps (of_reader r) (state_line r) x)
 
+-- at the beginning: a fresh reader for good texts, told 0
+abbrev pub begun : Feeds
+begun = of_reader (reader_of (fresh Good 0))
+
 -- f, l, p, s, or another letter
 abbrev pub done : Feeds × List ℕ → ℕ → List ℕ → Feeds × List ℕ
 done x c s =

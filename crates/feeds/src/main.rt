@@ -1,8 +1,9 @@
 // Calls of the fed reader, as lines on standard input say (docs/CALLS.md).
 #![tactic(auto)]
 
-ghost use Rattle.std.specs.Prelude.{◌≡◌, ◌≤◌, List, ℕ, length, Some, OnOk};
-ghost use Rattle.feeds.specs.Records.{form_in, phase_in, reader_in, progress_word, fresh_done, piece_done, state_done, done};
+ghost use Rattle.std.specs.Prelude.{◌≡◌, ◌≤◌, List, ℕ, length, Some, IfOk, OnOk};
+ghost use Rattle.feeds.specs.Records.{form_in, phase_in, reader_in, progress_word, fresh_done, piece_done, state_done, begun, done};
+ghost use Rattle.driver.specs.Input.{printed_of};
 
 use driver::{Answer, Program, Stdout};
 use item::Form;
@@ -138,9 +139,17 @@ impl Program for Feeds {
     }
 }
 
-fn main() -> fmt::Result {
+// What is printed of an input.
+fn answered(input: &[u8]) -> Result<Stdout, fmt::Error>
+    ensures { IfOk result (λ stdout. stdout.said ≡ printed_of done begun input.now) }
+{
     let reader = reader::fresh_reader(Form::Good, 0);
+    driver::run(&mut Feeds { reader }, input)
+}
+
+fn main() -> fmt::Result {
     let mut input = records::room();
     let n = io::read_full(STDIN, &mut input);
-    driver::run(&mut Feeds { reader }, &mut Stdout::new(), &input[..n])
+    answered(&input[..n])?;
+    Ok(())
 }

@@ -1,4 +1,4 @@
+pub mod Laws
 pub mod Back
 pub mod Determined
-pub mod Laws
 pub mod Told

@@ -161,6 +161,14 @@ drop_done x =
     let d' = data_behind answer d in
     keeps (record { reader = x.0.reader; control = c'; «data» = d' }) (drop_line (drop_number answer) c' d') x
 
+-- ---- at the beginning: a fresh frame reader, and two outboxes of which nothing is used
+
+abbrev pub empty : Outbox
+empty = record { bytes = unused; used = 0 }
+
+abbrev pub begun : Messages
+begun = record { reader = reader_of (head []); control = empty; «data» = empty }
+
 -- ---- a record, by its letter
 
 abbrev pub done : Messages × List ℕ → ℕ → List ℕ → Messages × List ℕ

@@ -1,10 +1,11 @@
 // Calls of the fed frame reader and of outboxes, as lines on standard input say (docs/CALLS.md).
 #![tactic(auto)]
 
-ghost use Rattle.std.specs.Prelude.{◌≡◌, ◌≤◌, ◌++◌, length, OnOk};
+ghost use Rattle.std.specs.Prelude.{◌≡◌, ◌≤◌, ◌++◌, length, IfOk, OnOk};
 ghost use Rattle.frames.specs.Event.{event_in};
 ghost use Rattle.messages.specs.Records.{unused, box_in, event_line, is_last, fresh_done, piece_done, end_done, written_line, box_done};
-ghost use Rattle.messages.specs.Records.{append_to, append_line, append_done, next_done, drop_done, done};
+ghost use Rattle.messages.specs.Records.{append_to, append_line, append_done, next_done, drop_done, begun, done};
+ghost use Rattle.driver.specs.Input.{printed_of};
 
 use driver::{Answer, Program, Stdout};
 use frame::Header;
@@ -245,13 +246,21 @@ impl Program for Messages {
     }
 }
 
-fn main() -> fmt::Result {
+// What is printed of an input.
+fn answered(input: &[u8]) -> Result<Stdout, fmt::Error>
+    ensures { IfOk result (λ stdout. stdout.said ≡ printed_of done begun input.now) }
+{
     let mut kept = Messages {
         reader: frames::fresh_reader(),
         control: Outbox::empty(),
         data: Outbox::empty(),
     };
+    driver::run(&mut kept, input)
+}
+
+fn main() -> fmt::Result {
     let mut input = records::room();
     let n = io::read_full(STDIN, &mut input);
-    driver::run(&mut kept, &mut Stdout::new(), &input[..n])
+    answered(&input[..n])?;
+    Ok(())
 }

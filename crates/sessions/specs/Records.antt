@@ -191,6 +191,10 @@ flag_done x s =
     let kept = x.0.session in
     with_bytes 2 s x (changed_done x (with_device kept (with_flag kept.device (byte_of s 0) (is_one s 1))))
 
+-- at the beginning: the session of device 0
+abbrev pub begun : Sessions
+begun = of_session (made_of 0).session
+
 -- m, r, w, t, n, p, l, x, g, or another letter
 abbrev pub done : Sessions × List ℕ → ℕ → List ℕ → Sessions × List ℕ
 done x c s =

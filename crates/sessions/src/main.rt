@@ -1,11 +1,12 @@
 // Events and states of a session, as lines on standard input say (docs/CALLS.md).
 #![tactic(auto)]
 
-ghost use Rattle.std.specs.Prelude.{◌≡◌, ◌≤◌, ◌++◌, length, Some, OnOk};
+ghost use Rattle.std.specs.Prelude.{◌≡◌, ◌≤◌, ◌++◌, length, Some, IfOk, OnOk};
 ghost use Rattle.message.specs.Send.{send_in};
 ghost use Rattle.sessions.specs.Records.{slots_first, flags_fields, state_fields, sent_fields, wish_in, timer_in, phase_in, slot_in, changed_line};
 ghost use Rattle.sessions.specs.Records.{event_done, make_done, receive_done, wish_done, timer_done};
-ghost use Rattle.sessions.specs.Records.{number_done, phase_done, linktest_done, slot_done, flag_done, done};
+ghost use Rattle.sessions.specs.Records.{number_done, phase_done, linktest_done, slot_done, flag_done, begun, done};
+ghost use Rattle.driver.specs.Input.{printed_of};
 
 use driver::{Program, Stdout};
 use frame::Header;
@@ -334,9 +335,17 @@ impl Program for Sessions {
     }
 }
 
-fn main() -> fmt::Result {
+// What is printed of an input.
+fn answered(input: &[u8]) -> Result<Stdout, fmt::Error>
+    ensures { IfOk result (λ stdout. stdout.said ≡ printed_of done begun input.now) }
+{
     let session = session::new_session(0).session;
+    driver::run(&mut Sessions { session }, input)
+}
+
+fn main() -> fmt::Result {
     let mut input = records::room();
     let n = io::read_full(STDIN, &mut input);
-    driver::run(&mut Sessions { session }, &mut Stdout::new(), &input[..n])
+    answered(&input[..n])?;
+    Ok(())
 }

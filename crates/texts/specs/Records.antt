@@ -11,7 +11,9 @@ use Rattle.rows.specs.declared.Row.{Row}
 use Rattle.text.specs.Measured.{Measured, Are, Refused}
 use Rattle.text.specs.Text.{judged_as, judged_of, measured_of, read_of, table_after, part_number, part_of}
 use Rattle.writer.specs.Writing.{written_of, leaned_of}
+use Rattle.driver.specs.Input.{says}
 use Rattle.driver.specs.Printed.{field, line, bad_record, if_bytes, hex_field, counted_fields}
+use Rattle.texts.specs.declared.Texts.{Texts}
 
 -- ---- a text judged
 
@@ -79,3 +81,10 @@ printed c s =
     (cond (eqb c 0x77) (written_line s)
     (cond (eqb c 0x6C) (lean_line s)
     bad_record))))
+
+-- nothing is kept from record to record
+abbrev pub begun : Texts
+begun = record {}
+
+abbrev pub done : Texts × List ℕ → ℕ → List ℕ → Texts × List ℕ
+done x c s = says (printed c s) x

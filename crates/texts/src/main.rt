@@ -1,9 +1,9 @@
 // Whole texts judged, measured, read and written, as lines on standard input say (docs/CALLS.md).
 #![tactic(auto)]
 
-ghost use Rattle.std.specs.Prelude.{◌≡◌, ◌++◌, OnOk};
-ghost use Rattle.driver.specs.Input.{says};
-ghost use Rattle.texts.specs.Records.{judged_line, read_line, part_line, written_line, lean_line, printed};
+ghost use Rattle.std.specs.Prelude.{◌≡◌, ◌++◌, IfOk, OnOk};
+ghost use Rattle.driver.specs.Input.{printed_of};
+ghost use Rattle.texts.specs.Records.{judged_line, read_line, part_line, written_line, lean_line, begun, done};
 
 use driver::{Answer, Program, Stdout};
 use item::Form;
@@ -107,7 +107,7 @@ fn lean(stdout: &mut Stdout, b: &[u8]) -> fmt::Result
 struct Texts;
 
 impl Program for Texts {
-    ghost done = { λ x c s. says (printed c s) x };
+    ghost done = { done };
 
     fn record(&mut self, stdout: &mut Stdout, letter: u8, bytes: &mut [u8]) -> fmt::Result {
         match letter {
@@ -121,8 +121,16 @@ impl Program for Texts {
     }
 }
 
+// What is printed of an input.
+fn answered(input: &[u8]) -> Result<Stdout, fmt::Error>
+    ensures { IfOk result (λ stdout. stdout.said ≡ printed_of done begun input.now) }
+{
+    driver::run(&mut Texts, input)
+}
+
 fn main() -> fmt::Result {
     let mut input = records::room();
     let n = io::read_full(STDIN, &mut input);
-    driver::run(&mut Texts, &mut Stdout::new(), &input[..n])
+    answered(&input[..n])?;
+    Ok(())
 }
