@@ -22,6 +22,7 @@ use std::{env, fs, process};
 
 fn all_books() -> Vec<(&'static str, Book)> {
     vec![
+        ("echo", cases::echo::make()),
         ("feeds", cases::feeds::make()),
         ("texts", cases::texts::make()),
         ("elements", cases::elements::make()),

@@ -1,10 +1,12 @@
 -- Two outcomes that a promise permits for the same call are equal: each is the one that the definition gives.
-use mathlib.Core.Path.{◌≡◌, sym, subst, ◌∙◌}
-use Rattle.std.specs.Prelude.{ℕ, List, Option, Some, IfSome, Result, Ok, Err, OnOk, IsOk}
+use mathlib.Core.Path.{◌≡◌, sym, ap, subst, ◌∙◌}
+use Rattle.std.specs.Prelude.{ℕ, List, [], Option, Some, IfSome, Result, Ok, Err, OnOk, IsOk}
 use Rattle.std.specs.Fmt.{IsPlainFormatter, formatter_writer}
 use Rattle.std.proofs.lemmas.Result.{IfOk-at_ok}
 use Rattle.refusal.proofs.Written.{Holds, one_writing}
 use Rattle.driver.specs.Printed.{answer_fields}
+use Rattle.driver.specs.Input.{input_of, lines_done}
+use Rattle.driver.proofs.Walk.{lines_once}
 use Rattle.driver.proofs.number.Reads as number_reads
 use Rattle.driver.proofs.stdout.Stdout.new.Reads as new_reads
 use Rattle.driver.proofs.stdout.Stdout.bytes.Reads as bytes_reads
@@ -12,7 +14,8 @@ use Rattle.driver.proofs.stdout.StdoutWrite.write_str.Reads as write_str_reads
 use Rattle.driver.proofs.bad.Reads as bad_reads
 use Rattle.driver.proofs.digits.Reads as digits_reads
 use Rattle.driver.proofs.AnswerDisplay.fmt.Reads as display_reads
-use Rattle.driver.proofs.Program.record.Reads as record_reads
+use Rattle.driver.proofs.Defined.record.Reads as record_reads
+use Rattle.driver.proofs.run_on.Reads as run_on_reads
 use Rattle.driver.proofs.run.Reads as run_reads
 
 number_one : (g : _) (t : _) (d : _) (κs : _) (a : _) (r r' : _) (s s' : _) → number_reads.Post g t d κs a r s → number_reads.Post g t d κs a r' s' → r ≡ r'
@@ -57,14 +60,24 @@ display_one :
 display_one T W l m g t h u κs a r r' s s' p q bs e held holds plain ok ok' =
     one_writing _ held holds _ bs _ _ (some_of _ _ bs e p.0 plain ok) (some_of _ _ bs e q.0 plain ok')
 
--- the program and what standard output was handed, behind a record and behind an input
+-- a defined program and what standard output was handed, behind a record and behind an input
 
 record_one :
     (P : _) (l : _) (g : _) (t : _) (κs : _) (a : _) (r r' : _) (s s' : _) → record_reads.Post P l g t κs a r s → record_reads.Post P l g t κs a r' s'
     → IsOk r → IsOk r' → ◌≡◌ {A = P.Denot × List ℕ} (s.0.now, s.1.0.now.said) (s'.0.now, s'.1.0.now.said)
 record_one P l g t κs a r r' s s' p q ok ok' = from_ok r p ok ∙ sym (from_ok r' q ok')
 
-run_one :
-    (P : _) (l : _) (g : _) (t : _) (κs : _) (a : _) (r r' : _) (s s' : _) → run_reads.Post P l g t κs a r s → run_reads.Post P l g t κs a r' s'
+run_on_one :
+    (P : _) (l : _) (g : _) (t : _) (κs : _) (a : _) (r r' : _) (s s' : _) → run_on_reads.Post P l g t κs a r s → run_on_reads.Post P l g t κs a r' s'
     → (o o' : _) → r ≡ Ok o → r' ≡ Ok o' → ◌≡◌ {A = P.Denot × List ℕ} (s.0.now, o.said) (s'.0.now, o'.said)
-run_one P l g t κs a r r' s s' p q o o' e e' = IfOk-at_ok _ e p ∙ sym (IfOk-at_ok _ e' q)
+run_on_one P l g t κs a r r' s s' p q o o' e e' = IfOk-at_ok _ e p ∙ sym (IfOk-at_ok _ e' q)
+
+-- no clause can say what standard input gives: where what a record makes is a function, the program is as behind the lines of some input
+
+run_some :
+    (P : _) (l : _) (g : _) (t : _) (κs : _) (a : _) (r : _) (s : _) → run_reads.Post P l g t κs a r s → IsOk r
+    → (done : P.Denot × List ℕ → ℕ → List ℕ → P.Denot × List ℕ) → ((x : _) (c : _) (b : _) (y : _) → g.makes x c b y → y ≡ done x c b)
+    → (input : List ℕ) × s.0.now ≡ (lines_done done (a.0.now, []) (input_of input)).0
+run_some P l g t κs a r s p ok done one =
+    let m = from_ok r p ok in
+    (m.0, ap (λ (x : P.Denot × List ℕ). x.0) (lines_once g.makes done one (a.0.now, []) (input_of m.0) (s.0.now, m.1) m.2))

@@ -1,5 +1,5 @@
 -- What an input does, line by line, to a program and to what standard output was handed; docs/CALLS.md has it in words.
-use Rattle.std.specs.Prelude.{ℕ, cond, eqb, ltb, List, [], ◌∷◌, ◌++◌, length, map, codes}
+use Rattle.std.specs.Prelude.{◌≡◌, ℕ, cond, eqb, ltb, List, [], ◌∷◌, ◌++◌, length, map, codes}
 use Rattle.hexes.specs.Hex.{is_hex, bytes_in}
 use Rattle.records.specs.Lines.{lines_of}
 use Rattle.driver.specs.Printed.{bad_record}
@@ -45,6 +45,16 @@ line_done done x (Record c s) = done x c s
 abbrev pub lines_done : {P : Type 0} → (P × List ℕ → ℕ → List ℕ → P × List ℕ) → P × List ℕ → List Line → P × List ℕ
 lines_done done x [] = x
 lines_done done x (l ∷ ls) = lines_done done (line_done done x l) ls
+
+-- whether a line may make the second of the first, where `makes` says it of a record
+abbrev pub line_makes : {P : Type 0} → (P × List ℕ → ℕ → List ℕ → P × List ℕ → Type 0) → P × List ℕ → Line → P × List ℕ → Type 0
+line_makes makes x (Prints s) y = y ≡ says s x
+line_makes makes x (Record c s) y = makes x c s y
+
+-- whether these lines may
+abbrev pub lines_make : {P : Type 0} → (P × List ℕ → ℕ → List ℕ → P × List ℕ → Type 0) → P × List ℕ → List Line → P × List ℕ → Type 0
+lines_make makes x [] y = y ≡ x
+lines_make {P} makes x (l ∷ ls) y = (z : P × List ℕ) × line_makes makes x l z × lines_make makes z ls y
 
 -- what is printed of an input by a program that begins as this
 abbrev pub printed_of : {P : Type 0} → (P × List ℕ → ℕ → List ℕ → P × List ℕ) → P → List ℕ → List ℕ

@@ -5,7 +5,7 @@ ghost use Rattle.std.specs.Prelude.{◌≡◌, ◌++◌, IfOk, OnOk, Some};
 ghost use Rattle.driver.specs.Input.{printed_of};
 ghost use Rattle.elements.specs.Records.{element_text, got_line, element_of, set_line, begun, done};
 
-use driver::{Answer, Program, Stdout};
+use driver::{Answer, Defined, Stdout};
 use element::Element;
 use std::fmt;
 use std::fmt::Write;
@@ -88,7 +88,7 @@ fn set(stdout: &mut Stdout, b: &mut [u8]) -> fmt::Result
 #[derive(Drop)]
 struct Elements;
 
-impl Program for Elements {
+impl Defined for Elements {
     ghost done = { done };
 
     fn record(&mut self, stdout: &mut Stdout, letter: u8, bytes: &mut [u8]) -> fmt::Result {
@@ -104,7 +104,7 @@ impl Program for Elements {
 fn answered(input: &[u8]) -> Result<Stdout, fmt::Error>
     ensures { IfOk result (λ stdout. stdout.said ≡ printed_of done begun input.now) }
 {
-    driver::run(&mut Elements, input)
+    driver::run_on(&mut Elements, input)
 }
 
 fn main() -> fmt::Result {

@@ -5,7 +5,7 @@ ghost use Rattle.std.specs.Prelude.{◌≡◌, ◌≤◌, List, ℕ, length, Som
 ghost use Rattle.feeds.specs.Records.{form_in, phase_in, reader_in, progress_word, fresh_done, piece_done, state_done, begun, done};
 ghost use Rattle.driver.specs.Input.{printed_of};
 
-use driver::{Answer, Program, Stdout};
+use driver::{Answer, Defined, Stdout};
 use item::Form;
 use reader::{Phase, Progress, Reader};
 use std::fmt;
@@ -125,7 +125,7 @@ impl Feeds {
     }
 }
 
-impl Program for Feeds {
+impl Defined for Feeds {
     ghost done = { done };
 
     fn record(&mut self, stdout: &mut Stdout, letter: u8, bytes: &mut [u8]) -> fmt::Result {
@@ -144,7 +144,7 @@ fn answered(input: &[u8]) -> Result<Stdout, fmt::Error>
     ensures { IfOk result (λ stdout. stdout.said ≡ printed_of done begun input.now) }
 {
     let reader = reader::fresh_reader(Form::Good, 0);
-    driver::run(&mut Feeds { reader }, input)
+    driver::run_on(&mut Feeds { reader }, input)
 }
 
 fn main() -> fmt::Result {

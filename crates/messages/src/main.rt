@@ -7,7 +7,7 @@ ghost use Rattle.messages.specs.Records.{unused, box_in, event_line, is_last, fr
 ghost use Rattle.messages.specs.Records.{append_to, append_line, append_done, next_done, drop_done, begun, done};
 ghost use Rattle.driver.specs.Input.{printed_of};
 
-use driver::{Answer, Program, Stdout};
+use driver::{Answer, Defined, Stdout};
 use frame::Header;
 use frames::{Event, FrameReader};
 use outbox::Dropped;
@@ -228,7 +228,7 @@ impl Messages {
     }
 }
 
-impl Program for Messages {
+impl Defined for Messages {
     ghost done = { done };
 
     fn record(&mut self, stdout: &mut Stdout, letter: u8, bytes: &mut [u8]) -> fmt::Result {
@@ -255,7 +255,7 @@ fn answered(input: &[u8]) -> Result<Stdout, fmt::Error>
         control: Outbox::empty(),
         data: Outbox::empty(),
     };
-    driver::run(&mut kept, input)
+    driver::run_on(&mut kept, input)
 }
 
 fn main() -> fmt::Result {

@@ -8,7 +8,7 @@ ghost use Rattle.sessions.specs.Records.{event_done, make_done, receive_done, wi
 ghost use Rattle.sessions.specs.Records.{number_done, phase_done, linktest_done, slot_done, flag_done, begun, done};
 ghost use Rattle.driver.specs.Input.{printed_of};
 
-use driver::{Program, Stdout};
+use driver::{Defined, Stdout};
 use frame::Header;
 use message::Message;
 use session::{Event, Phase, Received, Session, Timer, Wish};
@@ -316,7 +316,7 @@ impl Sessions {
     }
 }
 
-impl Program for Sessions {
+impl Defined for Sessions {
     ghost done = { done };
 
     fn record(&mut self, stdout: &mut Stdout, letter: u8, bytes: &mut [u8]) -> fmt::Result {
@@ -340,7 +340,7 @@ fn answered(input: &[u8]) -> Result<Stdout, fmt::Error>
     ensures { IfOk result (λ stdout. stdout.said ≡ printed_of done begun input.now) }
 {
     let session = session::new_session(0).session;
-    driver::run(&mut Sessions { session }, input)
+    driver::run_on(&mut Sessions { session }, input)
 }
 
 fn main() -> fmt::Result {

@@ -5,7 +5,7 @@ ghost use Rattle.std.specs.Prelude.{◌≡◌, ◌++◌, IfOk, OnOk};
 ghost use Rattle.driver.specs.Input.{printed_of};
 ghost use Rattle.texts.specs.Records.{judged_line, read_line, part_line, written_line, lean_line, begun, done};
 
-use driver::{Answer, Program, Stdout};
+use driver::{Answer, Defined, Stdout};
 use item::Form;
 use rows::Row;
 use std::fmt;
@@ -106,7 +106,7 @@ fn lean(stdout: &mut Stdout, b: &[u8]) -> fmt::Result
 #[derive(Drop)]
 struct Texts;
 
-impl Program for Texts {
+impl Defined for Texts {
     ghost done = { done };
 
     fn record(&mut self, stdout: &mut Stdout, letter: u8, bytes: &mut [u8]) -> fmt::Result {
@@ -125,7 +125,7 @@ impl Program for Texts {
 fn answered(input: &[u8]) -> Result<Stdout, fmt::Error>
     ensures { IfOk result (λ stdout. stdout.said ≡ printed_of done begun input.now) }
 {
-    driver::run(&mut Texts, input)
+    driver::run_on(&mut Texts, input)
 }
 
 fn main() -> fmt::Result {

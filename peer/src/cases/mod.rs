@@ -1,6 +1,7 @@
 //! The cases of each program.
 
 pub mod capture;
+pub mod echo;
 pub mod elements;
 pub mod feeds;
 pub mod messages;
