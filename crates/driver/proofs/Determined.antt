@@ -1,12 +1,10 @@
 -- Two outcomes that a promise permits for the same call are equal: each is the one that the definition gives.
-use mathlib.Core.Path.{◌≡◌, sym, ap, subst, ◌∙◌}
-use Rattle.std.specs.Prelude.{ℕ, List, [], Option, Some, IfSome, Result, Ok, Err, OnOk, IsOk}
+use mathlib.Core.Path.{◌≡◌, sym, subst, ◌∙◌}
+use Rattle.std.specs.Prelude.{ℕ, List, Option, Some, IfSome, Result, Ok, Err, OnOk, IsOk}
 use Rattle.std.specs.Fmt.{IsPlainFormatter, formatter_writer}
 use Rattle.std.proofs.lemmas.Result.{IfOk-at_ok}
 use Rattle.refusal.proofs.Written.{Holds, one_writing}
 use Rattle.driver.specs.Printed.{answer_fields}
-use Rattle.driver.specs.Input.{input_of, lines_done}
-use Rattle.driver.proofs.Walk.{lines_once}
 use Rattle.driver.proofs.number.Reads as number_reads
 use Rattle.driver.proofs.stdout.Stdout.new.Reads as new_reads
 use Rattle.driver.proofs.stdout.Stdout.bytes.Reads as bytes_reads
@@ -16,7 +14,6 @@ use Rattle.driver.proofs.digits.Reads as digits_reads
 use Rattle.driver.proofs.AnswerDisplay.fmt.Reads as display_reads
 use Rattle.driver.proofs.Defined.record.Reads as record_reads
 use Rattle.driver.proofs.run_on.Reads as run_on_reads
-use Rattle.driver.proofs.run.Reads as run_reads
 
 number_one : (g : _) (t : _) (d : _) (κs : _) (a : _) (r r' : _) (s s' : _) → number_reads.Post g t d κs a r s → number_reads.Post g t d κs a r' s' → r ≡ r'
 number_one g t d κs a r r' s s' p q = p ∙ sym q
@@ -34,7 +31,7 @@ write_str_one :
     → IsOk r → IsOk r' → s.0.now.said ≡ s'.0.now.said
 write_str_one κs a r r' s s' p q ok ok' = p ok ∙ sym (q ok')
 
-from_ok : {A E P : Type 0} (r : Result A E) → OnOk r P → IsOk r → P
+pub from_ok : {A E P : Type 0} (r : Result A E) → OnOk r P → IsOk r → P
 from_ok (Ok x) p ok = p
 from_ok (Err e) p ok = absurd cc
 
@@ -71,13 +68,3 @@ run_on_one :
     (P : _) (l : _) (g : _) (t : _) (κs : _) (a : _) (r r' : _) (s s' : _) → run_on_reads.Post P l g t κs a r s → run_on_reads.Post P l g t κs a r' s'
     → (o o' : _) → r ≡ Ok o → r' ≡ Ok o' → ◌≡◌ {A = P.Denot × List ℕ} (s.0.now, o.said) (s'.0.now, o'.said)
 run_on_one P l g t κs a r r' s s' p q o o' e e' = IfOk-at_ok _ e p ∙ sym (IfOk-at_ok _ e' q)
-
--- no clause can say what standard input gives: where what a record makes is a function, the program is as behind the lines of some input
-
-run_some :
-    (P : _) (l : _) (g : _) (t : _) (κs : _) (a : _) (r : _) (s : _) → run_reads.Post P l g t κs a r s → IsOk r
-    → (done : P.Denot × List ℕ → ℕ → List ℕ → P.Denot × List ℕ) → ((x : _) (c : _) (b : _) (y : _) → g.makes x c b y → y ≡ done x c b)
-    → (input : List ℕ) × s.0.now ≡ (lines_done done (a.0.now, []) (input_of input)).0
-run_some P l g t κs a r s p ok done one =
-    let m = from_ok r p ok in
-    (m.0, ap (λ (x : P.Denot × List ℕ). x.0) (lines_once g.makes done one (a.0.now, []) (input_of m.0) (s.0.now, m.1) m.2))

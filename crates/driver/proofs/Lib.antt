@@ -1,3 +1,4 @@
 pub mod Determined
 pub mod Fields
+pub mod SomeInput
 pub mod Walk

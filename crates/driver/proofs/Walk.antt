@@ -1,4 +1,4 @@
--- What a line is that is a record, or none; and what the lines from a place on do.
+-- What a line is that is a record, or none; what the lines from a place on make, which is one thing where a record makes one.
 use Rattle.std.proofs.Common.{◌≡◌, ◌<◌, ◌+◌, ◌-◌, ◌∙◌, ℕ, true, false, eqb, sym, ap, subst, refl, lt-ltb}
 use Rattle.std.proofs.Common.{List, [], ◌∷◌, ◌++◌, length, take, drop, map}
 use Rattle.hexes.specs.Hex.{is_hex, bytes_in}
@@ -53,6 +53,12 @@ module _ {P : Type 0} (done : P × List ℕ → ℕ → List ℕ → P × List �
   abbrev alone : P × List ℕ → ℕ → List ℕ → P × List ℕ → Type 0
   alone x c s y = y ≡ done x c s
 
+  line_is : (x : P × List ℕ) (l : Line) (y : P × List ℕ) → line_makes alone x l y → y ≡ line_done done x l
+  line_is = line_once alone done (λ x c s y e. e)
+
+  pub lines_are : (x : P × List ℕ) (ls : List Line) (y : P × List ℕ) → lines_make alone x ls y → y ≡ lines_done done x ls
+  lines_are = lines_once alone done (λ x c s y e. e)
+
   line_made : (x : P × List ℕ) (l : Line) → line_makes alone x l (line_done done x l)
   line_made x (Prints s) = refl
   line_made x (Record c s) = refl
@@ -63,10 +69,10 @@ module _ {P : Type 0} (done : P × List ℕ → ℕ → List ℕ → P × List �
 
   module _ (x : P × List ℕ) where
     pub only : {l : Line} {s t : List ℕ} → l ≡ Prints s → t ≡ x.1 ++ s → (x.0, t) ≡ line_done done x l
-    only {l} {t = t} e w = line_once alone done (λ x c s y e. e) x l (x.0, t) (only_makes alone x e w)
+    only {l} {t = t} e w = line_is x l (x.0, t) (only_makes alone x e w)
 
     pub as_record : {l : Line} {c : ℕ} {s t : List ℕ} {y : P × List ℕ} → l ≡ Record c s → t ≡ s → y ≡ done x c t → y ≡ line_done done x l
-    as_record {l} {y = y} e f d = line_once alone done (λ x c s y e. e) x l y (record_makes alone x e f d)
+    as_record {l} {y = y} e f d = line_is x l y (record_makes alone x e f d)
 
     pub line_then :
         (s : List ℕ) (at end : ℕ) (y : P × List ℕ) → at < length s → end ≡ line_end s at → y ≡ line_done done x (line_of (take (end - at) (drop at s)))
@@ -77,4 +83,4 @@ module _ {P : Type 0} (done : P × List ℕ → ℕ → List ℕ → P × List �
         let first = subst (λ (z : P × List ℕ). line_makes alone x l z) (sym e) (line_made x l) in
         let behind = lines_done done y others in
         let all = then_makes alone x s at end y h f first behind (lines_made y others) in
-        lines_once alone done (λ x c s y e. e) x (map line_of (lines_of (drop at s))) behind all
+        lines_are x (map line_of (lines_of (drop at s))) behind all
